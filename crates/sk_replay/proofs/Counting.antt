@@ -1,5 +1,7 @@
 -- The lines of a log, counted one after the other.
-use Rattle.std.proofs.Common.{◌≡◌, ◌<◌, ◌≤◌, ◌+◌, ◌-◌, ◌^◌, ◌∙◌, ap, arith, refl, sym, ℕ, List, [], ◌∷◌, ◌++◌, length, length-append, append-nil, append_assoc, count_by, Bool, true, false, cond}
+use Rattle.std.proofs.Common.{◌≡◌, ◌<◌, ◌≤◌, ◌+◌, ◌-◌, ◌^◌, ◌∙◌, ap, arith, refl, sym, ℕ, List, [], ◌∷◌, ◌++◌, length, length-append, append-nil, append_assoc, count_by, take, nat_lt, if◌then◌else◌, inl, inr, length-take, Bool, true, false, cond}
+use Rattle.std.proofs.lemmas.Bool.{cases_lt, lt-ltb, le-ltb}
+use Rattle.std.proofs.lemmas.List.{take_all, take-append-le}
 use Rattle.std.proofs.lemmas.List.Sums.{sum_by-append, count_by-le-length}
 use Rattle.sk_text.specs.Lines.{lines_of}
 use Rattle.sk_asm.proofs.Blocks.{length-lines_in}
@@ -8,7 +10,7 @@ use Rattle.sk_replay.specs.declared.call.Call.{Call}
 use Rattle.sk_replay.specs.declared.line.LogLine.{LogLine}
 use Rattle.sk_replay.specs.declared.line.LogLine.TheVariants.{Made, Event, Unclear}
 use Rattle.sk_replay.specs.Lines.{line_of}
-use Rattle.sk_replay.specs.Replaying.{onto_calls, calls_of, is_event, is_unclear, events_in, unclear_in, tallied, times_of, with_line}
+use Rattle.sk_replay.specs.Replaying.{onto_calls, onto_numbers, calls_of, is_event, is_unclear, events_in, unclear_from, unclear_in, unclear_lines, tallied, times_of, with_line, with_number}
 use Rattle.sk_replay.proofs.Tallies.{tallied_more, times_within}
 
 onto_append : (line : LogLine) (xs ys : List Call) → onto_calls line (xs ++ ys) ≡ onto_calls line xs ++ ys
@@ -39,18 +41,57 @@ with_more Event calls = ap tallied (sym (append-nil calls))
 with_more Unclear calls = ap tallied (sym (append-nil calls))
 
 -- what was counted is what the lines say that are done
-pub record Counted (by : Architecture) (entries : List (Call × ℕ)) (events unclear : ℕ) (rest all : List (List ℕ)) : Type 0 where
+pub record Counted (by : Architecture) (entries : List (Call × ℕ)) (events unclear : ℕ) (numbers : List ℕ) (number : ℕ) (rest all : List (List ℕ)) : Type 0 where
   pub done : List (List ℕ)
   pub whole : done ++ rest ≡ all
   pub calls : entries ≡ tallied (calls_of by done)
   pub ended : events ≡ events_in by done
   pub missed : unclear ≡ unclear_in by done
+  pub noted : numbers ≡ unclear_lines by done
+  pub next : number ≡ length done
 
-pub begun : (by : Architecture) (entries : List (Call × ℕ)) (rest all : List (List ℕ)) → entries ≡ [] → rest ≡ all → Counted by entries 0 0 rest all
-begun by entries rest all none same = record { done = []; whole = same; calls = none; ended = refl; missed = refl }
+pub begun : (by : Architecture) (entries : List (Call × ℕ)) (numbers : List ℕ) (rest all : List (List ℕ)) → entries ≡ [] → numbers ≡ [] → rest ≡ all → Counted by entries 0 0 numbers 0 rest all
+begun by entries numbers rest all none nothing same = record { done = []; whole = same; calls = none; ended = refl; missed = refl; noted = nothing; next = refl }
 
-module _ (by : Architecture) (entries : List (Call × ℕ)) (events unclear : ℕ) (log line : List ℕ) (lines rest : List (List ℕ))
-    (fits : length log < 2 ^ 64) (cut : lines ≡ line ∷ rest) (counted : Counted by entries events unclear lines (lines_of log)) where
+-- ---- numbers of lines
+
+onto_more : (number : ℕ) (line : LogLine) (xs ys : List ℕ) → onto_numbers number line (xs ++ ys) ≡ onto_numbers number line xs ++ ys
+onto_more number (Made call) xs ys = refl
+onto_more number Event xs ys = refl
+onto_more number Unclear xs ys = refl
+
+numbers_more : (by : Architecture) (first : ℕ) (done : List (List ℕ)) (line : List ℕ)
+    → unclear_from by first (done ++ line ∷ []) ≡ unclear_from by first done ++ onto_numbers (first + length done) (line_of by line) []
+numbers_more by first [] line = let same : first ≡ first + 0 = omega arith in ap (λ n. onto_numbers n (line_of by line) []) same
+numbers_more by first (one ∷ done) line =
+    let same : first + 1 + length done ≡ first + length (one ∷ done) = omega arith in
+    ap (onto_numbers first (line_of by one)) (numbers_more by (first + 1) done line)
+    ∙ onto_more first (line_of by one) (unclear_from by (first + 1) done) (onto_numbers (first + 1 + length done) (line_of by line) [])
+    ∙ ap (λ n. onto_numbers first (line_of by one) (unclear_from by (first + 1) done) ++ onto_numbers n (line_of by line) []) same
+
+-- eight of a list, and one more behind it
+one_or_none : (number : ℕ) (line : LogLine) → length (onto_numbers number line []) ≤ 1
+one_or_none number (Made call) = omega arith
+one_or_none number Event = omega arith
+one_or_none number Unclear = omega arith
+
+with_one : (xs ys : List ℕ) → length ys ≤ 1 → (if nat_lt (length (take 8 xs)) 8 then take 8 xs ++ ys else take 8 xs) ≡ take 8 (xs ++ ys)
+with_one xs ys few = elim (cases_lt (length xs) 8) [
+  | inl lt ↦
+      let all = take_all 8 xs (omega (arith, lt)) in
+      let t = lt-ltb (length xs) 8 lt in
+      let lens = length-append xs ys in
+      let both = take_all 8 (xs ++ ys) (omega (arith, lt, few, lens)) in
+      rw (all, t, both) refl
+  | inr ge ↦
+      let len = length-take 8 xs in
+      let f = le-ltb (length (take 8 xs)) 8 (omega (arith, len, ge)) in
+      let same = take-append-le 8 xs ys ge in
+      rw (f, same) refl
+]
+
+module _ (by : Architecture) (entries : List (Call × ℕ)) (events unclear : ℕ) (numbers : List ℕ) (number : ℕ) (log line : List ℕ) (lines rest : List (List ℕ))
+    (fits : length log < 2 ^ 64) (cut : lines ≡ line ∷ rest) (counted : Counted by entries events unclear numbers number lines (lines_of log)) where
   -- there are fewer lines than a number of 64 bits counts
   few : length counted.done < 2 ^ 64 - 1
   few =
@@ -80,9 +121,19 @@ module _ (by : Architecture) (entries : List (Call × ℕ)) (events unclear : �
   pub few_unclear : unclear < 2 ^ 64 - 1
   few_unclear = few_of is_unclear unclear counted.missed
 
-  pub turned : (said : LogLine) (after : List (Call × ℕ)) (e u : ℕ) → said ≡ line_of by line → after ≡ with_line said entries → e ≡ cond (is_event said) 1 0 → u ≡ cond (is_unclear said) 1 0
-      → Counted by after (events + e) (unclear + u) rest (lines_of log)
-  turned said after e u is counted_call event missing = record {
+  pub next_fits : number + 1 < 2 ^ 64
+  next_fits =
+      let fewer = few in
+      let now = counted.next in
+      omega (arith, fewer, now)
+
+  place : number + 1 ≡ 1 + length counted.done
+  place = let now = counted.next in omega (arith, now)
+
+  pub turned : (said : LogLine) (after : List (Call × ℕ)) (more : List ℕ) (e u : ℕ) → said ≡ line_of by line → after ≡ with_line said entries → more ≡ with_number numbers (number + 1) said
+      → e ≡ cond (is_event said) 1 0 → u ≡ cond (is_unclear said) 1 0
+      → Counted by after (events + e) (unclear + u) more (number + 1) rest (lines_of log)
+  turned said after more e u is counted_call numbered event missing = record {
     done = counted.done ++ line ∷ [];
     whole = append_assoc counted.done (line ∷ []) rest ∙ ap (λ l. counted.done ++ l) (sym cut) ∙ counted.whole;
     calls =
@@ -100,10 +151,18 @@ module _ (by : Architecture) (entries : List (Call × ℕ)) (events unclear : �
         let more : unclear_in by (counted.done ++ line ∷ []) ≡ unclear_in by counted.done + (0 + cond (is_unclear (line_of by line)) 1 0) =
         sum_by-append (λ l. cond (is_unclear (line_of by l)) 1 0) counted.done (line ∷ []) in
         omega (arith, one, same, more);
+    noted =
+        numbered ∙ (λ i. with_number (counted.noted i) (place i) (is i))
+        ∙ with_one (unclear_from by 1 counted.done) (onto_numbers (1 + length counted.done) (line_of by line) []) (one_or_none (1 + length counted.done) (line_of by line))
+        ∙ sym (ap (take 8) (numbers_more by 1 counted.done line));
+    next =
+        let now = counted.next in
+        let longer = length-append counted.done (line ∷ []) in
+        omega (arith, now, longer);
   }
 
-module _ (by : Architecture) (entries : List (Call × ℕ)) (events unclear : ℕ) (rest all : List (List ℕ))
-    (none : rest ≡ []) (counted : Counted by entries events unclear rest all) where
+module _ (by : Architecture) (entries : List (Call × ℕ)) (events unclear : ℕ) (numbers : List ℕ) (number : ℕ) (rest all : List (List ℕ))
+    (none : rest ≡ []) (counted : Counted by entries events unclear numbers number rest all) where
   all_done : counted.done ≡ all
   all_done = sym (append-nil counted.done) ∙ ap (λ l. counted.done ++ l) (sym none) ∙ counted.whole
 
@@ -115,6 +174,9 @@ module _ (by : Architecture) (entries : List (Call × ℕ)) (events unclear : �
 
   pub all_unclear : unclear ≡ unclear_in by all
   all_unclear = counted.missed ∙ ap (unclear_in by) all_done
+
+  pub all_numbers : numbers ≡ unclear_lines by all
+  all_numbers = counted.noted ∙ ap (unclear_lines by) all_done
 
 -- one line more still fits
 pub sum_fits : (count one : ℕ) (test : Bool) → count < 2 ^ 64 - 1 → one ≡ cond test 1 0 → count + one < 2 ^ 64

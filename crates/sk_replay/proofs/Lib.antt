@@ -1,8 +1,13 @@
 pub mod WordExamples
 pub mod Given
-pub mod Arguments
 pub mod Marks
+pub mod Pairs
+pub mod OneByOne
 pub mod Tallies
 pub mod Counting
 pub mod Parts
 pub mod Examples
+pub mod Ends
+pub mod Undecided
+pub mod Alike
+pub mod Logging

@@ -1,11 +1,31 @@
--- The words in front of a call.
-use Rattle.std.proofs.Common.{◌≡◌, ◌∙◌, ap, refl, sym, ℕ, List, ◌∷◌, true, false}
+-- The words of a line, one after the other.
+use Rattle.std.proofs.Common.{◌≡◌, ◌∙◌, ap, refl, sym, ℕ, Bool, List, ◌∷◌, filter, nat_eq, true, false}
+use Rattle.std.specs.List.{list_any, starts_with}
 use Rattle.sk_names.specs.declared.architecture.Architecture.{Architecture}
 use Rattle.sk_replay.specs.declared.line.LogLine.{LogLine}
+use Rattle.sk_replay.specs.AuditRecords.{is_record_type}
 use Rattle.sk_replay.specs.Lines.{is_mark, said, said_at}
 
-pub unmarked : (by : Architecture) (word : List ℕ) (words rest : List (List ℕ)) (total : LogLine) → words ≡ word ∷ rest → is_mark word ≡ false → said by words ≡ total → said_at by word rest ≡ total
-unmarked by word words rest total cut f so_far = sym (sym so_far ∙ ap (said by) cut ∙ rw f refl)
+pub unmarked : (by : Architecture) (word text : List ℕ) (words rest : List (List ℕ)) (total : LogLine) → words ≡ word ∷ rest → is_mark word ≡ false → said by words text ≡ total → said_at by word rest text ≡ total
+unmarked by word text words rest total cut f so_far = sym (sym so_far ∙ ap (λ w. said by w text) cut ∙ rw f refl)
 
-pub marked : (by : Architecture) (word : List ℕ) (words rest : List (List ℕ)) (total : LogLine) → words ≡ word ∷ rest → is_mark word ≡ true → said by words ≡ total → said by rest ≡ total
-marked by word words rest total cut t so_far = sym (sym so_far ∙ ap (said by) cut ∙ rw t refl)
+pub marked : (by : Architecture) (word text : List ℕ) (words rest : List (List ℕ)) (total : LogLine) → words ≡ word ∷ rest → is_mark word ≡ true → said by words text ≡ total → said by rest text ≡ total
+marked by word text words rest total cut t so_far = sym (sym so_far ∙ ap (λ w. said by w text) cut ∙ rw t refl)
+
+-- a word that is no type of a record
+pub any_behind : (word : List ℕ) (words rest : List (List ℕ)) (total : Bool) → words ≡ word ∷ rest → is_record_type word ≡ false → list_any is_record_type words ≡ total → list_any is_record_type rest ≡ total
+any_behind word words rest total cut f so_far = sym (sym so_far ∙ ap (list_any is_record_type) cut ∙ rw f refl)
+
+-- one that is
+pub any_here : (word : List ℕ) (words rest : List (List ℕ)) (total : Bool) → words ≡ word ∷ rest → is_record_type word ≡ true → list_any is_record_type words ≡ total → true ≡ total
+any_here word words rest total cut t so_far = sym (sym so_far ∙ ap (list_any is_record_type) cut ∙ rw t refl)
+
+-- the words that begin with a key
+abbrev pub with_key : List ℕ → List (List ℕ) → List (List ℕ)
+with_key key words = filter (λ w. starts_with nat_eq w key) words
+
+pub kept_without : (key word : List ℕ) (words rest total : List (List ℕ)) → words ≡ word ∷ rest → starts_with nat_eq word key ≡ false → with_key key words ≡ total → with_key key rest ≡ total
+kept_without key word words rest total cut f so_far = sym (sym so_far ∙ ap (with_key key) cut ∙ rw f refl)
+
+pub kept_with : (key word : List ℕ) (words rest total : List (List ℕ)) → words ≡ word ∷ rest → starts_with nat_eq word key ≡ true → with_key key words ≡ total → total ≡ word ∷ with_key key rest
+kept_with key word words rest total cut t so_far = sym so_far ∙ ap (with_key key) cut ∙ rw t refl

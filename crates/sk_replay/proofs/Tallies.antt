@@ -1,30 +1,54 @@
 -- One call more in a tally.
-use Rattle.std.proofs.Common.{◌≡◌, ◌≤◌, ◌+◌, ◌∙◌, ap, arith, refl, rules, sym, ℕ, nat_eq, List, [], ◌∷◌, ◌++◌, map, filter, length, ◌==◌, ◌&&◌, ◌||◌, not, true, false, cond, append-nil, inl, inr, true≢false}
+use Rattle.std.proofs.Common.{◌≡◌, ◌≤◌, ◌+◌, ◌∙◌, ap, arith, refl, sym, ℕ, List, [], ◌∷◌, ◌++◌, map, filter, length, ◌==◌, ◌&&◌, ◌||◌, not, true, false, cond, append-nil, inl, inr, true≢false}
 use Rattle.std.proofs.lemmas.Bool.{cases_Bool, and_parts, and_from, eqb-true, eq-eqb}
 use Rattle.std.proofs.lemmas.List.Elements.{filter-append}
 use Rattle.std.proofs.lemmas.List.Sums.{sum_by-append, count_by-le-length}
-use Rattle.std.proofs.lemmas.Cmp.{nat_list_eq_equiv}
-use Rattle.std.proofs.lemmas.Slice.Eq.{bytes_eq-Decides}
 use Rattle.std.specs.Cmp.Lexicographic.{pointwise}
 use Rattle.std.specs.List.{count_by, list_any}
 use Rattle.sk_replay.specs.declared.call.Call.{Call}
-use Rattle.sk_replay.specs.Replaying.{is_same, each_once, tallied, times_of, with_call}
+use Rattle.sk_replay.specs.declared.value.Value.{Value}
+use Rattle.sk_replay.specs.declared.value.Value.TheVariants.{Told, Unknown}
+use Rattle.sk_replay.specs.Replaying.{is_same, same_value, each_once, tallied, times_of, with_call}
 
 -- ---- calls that are the same
 
+value_is : (a b : Value) → same_value a b ≡ true → a ≡ b
+value_is (Told a) (Told b) h = ap Told (eqb-true a b h)
+value_is Unknown Unknown h = refl
+value_is (Told a) Unknown h = absurd (true≢false (sym h))
+value_is Unknown (Told b) h = absurd (true≢false (sym h))
+
+value_self : (a : Value) → same_value a a ≡ true
+value_self (Told a) = eq-eqb a a refl
+value_self Unknown = refl
+
+values_are : (a b : List Value) → pointwise same_value a b ≡ true → a ≡ b
+values_are [] [] h = refl
+values_are [] (y ∷ b) h = absurd (true≢false (sym h))
+values_are (x ∷ a) [] h = absurd (true≢false (sym h))
+values_are (x ∷ a) (y ∷ b) h =
+    let both = and_parts (same_value x y) (pointwise same_value a b) h in
+    let one = value_is x y both.0 in
+    let rest = values_are a b both.1 in
+    λ i. one i ∷ rest i
+
+values_self : (a : List Value) → pointwise same_value a a ≡ true
+values_self [] = refl
+values_self (x ∷ a) = and_from (same_value x x) (pointwise same_value a a) (value_self x) (values_self a)
+
 same_is : (a b : Call) → is_same a b ≡ true → a ≡ b
 same_is a b h =
-    let outer = and_parts (a.nr == b.nr) ((a.shown == b.shown) && pointwise nat_eq a.args b.args) h in
-    let inner = and_parts (a.shown == b.shown) (pointwise nat_eq a.args b.args) outer.1 in
+    let outer = and_parts (a.nr == b.nr) ((a.shown == b.shown) && pointwise same_value a.args b.args) h in
+    let inner = and_parts (a.shown == b.shown) (pointwise same_value a.args b.args) outer.1 in
     let n = eqb-true a.nr b.nr outer.0 in
     let s = eqb-true a.shown b.shown inner.0 in
-    let r : a.args ≡ b.args = search (rules, bytes_eq-Decides a.args b.args, inner.1) in
+    let r = values_are a.args b.args inner.1 in
     λ i. record { nr = n i; shown = s i; args = r i }
 
 same_self : (a : Call) → is_same a a ≡ true
 same_self a =
-    and_from (a.nr == a.nr) ((a.shown == a.shown) && pointwise nat_eq a.args a.args) (eq-eqb a.nr a.nr refl)
-    (and_from (a.shown == a.shown) (pointwise nat_eq a.args a.args) (eq-eqb a.shown a.shown refl) (nat_list_eq_equiv.refl a.args))
+    and_from (a.nr == a.nr) ((a.shown == a.shown) && pointwise same_value a.args a.args) (eq-eqb a.nr a.nr refl)
+    (and_from (a.shown == a.shown) (pointwise same_value a.args a.args) (eq-eqb a.shown a.shown refl) (values_self a.args))
 
 same_back : (a b : Call) → is_same a b ≡ true → is_same b a ≡ true
 same_back a b h = ap (is_same b) (same_is a b h) ∙ same_self b

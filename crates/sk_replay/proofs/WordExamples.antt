@@ -6,11 +6,11 @@ use Rattle.sk_names.specs.X86_64.{number_named}
 use Rattle.sk_names.specs.Names.{number_at, number_in, number_on, runs_of}
 use Rattle.sk_replay.specs.WordCalls.{plain_number}
 use Rattle.sk_arguments.specs.Constants.{all_names, all_numbers, number_of_constant}
-use Rattle.sk_replay.specs.CallWords.{argument_of, arguments_of, call_of, given_in, inside_of, named_by, negative_number, negative_of, number_or_constant, part_of, plain_of}
+use Rattle.sk_replay.specs.CallWords.{argument_of, arguments_of, call_of, given_in, inside_of, named_by, negative_number, negative_of, number_in_c, number_or_constant, octal_number, part_of, plain_of}
 use Rattle.sk_replay.specs.WorkedWords.{WorkedWords}
 
 pub worked_words : WorkedWords
-unfolding digits number_of all_names all_numbers number_named number_at number_in number_on runs_of plain_number number_of_constant negative_number negative_of number_or_constant part_of plain_of argument_of arguments_of call_of given_in inside_of named_by
+unfolding digits number_of all_names all_numbers number_named number_at number_in number_on runs_of plain_number number_of_constant negative_number negative_of number_in_c number_or_constant octal_number part_of plain_of argument_of arguments_of call_of given_in inside_of named_by
 worked_words = record {
   arguments = refl;
   name = refl;
@@ -32,6 +32,8 @@ worked_words = record {
   closed_twice = refl;
   opened_twice = refl;
   octal = refl;
+  no_octal = refl;
+  null = refl;
   empty_last = refl;
   empty_between = refl;
   empty_both = refl;
@@ -55,6 +57,9 @@ worked_words = record {
   plus = refl;
   zero = refl;
   zeros = refl;
+  largest_octal = refl;
+  past_the_largest_octal = refl;
+  kind_and_mode = refl;
   name_of_zero = refl;
   number_without_a_name = refl;
   on_i386 = refl;

@@ -4,6 +4,8 @@ use Rattle.std.specs.Prelude.{ℕ, ◌+◌, ◌-◌, ◌%◌, ◌^◌, ◌==◌,
 use Rattle.std.specs.Option.{ok_or, option_map, option_or}
 use Rattle.std.specs.List.{before_first, slice_split, starts_with}
 use Rattle.sk_text.specs.Lines.{words_of}
+use Rattle.std.specs.Str.{bytes_eq}
+use Rattle.sk_text.specs.Numbers.{number_in, up_to}
 use Rattle.sk_text.specs.Words.{none_of, one_of}
 use Rattle.sk_insn.specs.declared.record.Record.{Record}
 use Rattle.sk_names.specs.declared.architecture.Architecture.{Architecture}
@@ -105,10 +107,18 @@ negative_of text = one_of (words_of text) >>= λ word. negative_number word
 unfoldable pub number_or_constant : List ℕ → Option ℕ
 number_or_constant word = option_or (plain_number (2 ^ 64 - 1) word) (number_of_constant word)
 
+-- digits behind a 0 are octal, as in C
+unfoldable pub octal_number : List ℕ → Option ℕ
+octal_number word = if starts_with nat_eq word (codes "0") then up_to (2 ^ 64 - 1) (number_in 8 (drop 1 word)) else None
+
+-- and `NULL` is 0
+unfoldable pub number_in_c : List ℕ → Option ℕ
+number_in_c word = if bytes_eq word (codes "NULL") then Some 0 else option_or (number_or_constant word) (octal_number word)
+
 -- that of the only word; or what stands there in its place
 abbrev pub only_number : List ℕ → Option (List ℕ) → Result ℕ (List ℕ)
 only_number text None = Err text
-only_number text (Some word) = ok_or (number_or_constant word) word
+only_number text (Some word) = ok_or (number_in_c word) word
 
 unfoldable pub part_of : List ℕ → Result ℕ (List ℕ)
 part_of text = only_number text (one_of (words_of text))

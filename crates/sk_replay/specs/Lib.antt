@@ -4,7 +4,16 @@ pub mod Answers
 pub mod Faults
 pub mod WorkedWords
 pub mod Calls
+pub mod Nests
+pub mod Values
+pub mod Modes
+pub mod AuditRecords
 pub mod Lines
+pub mod Judging
 pub mod Replaying
 pub mod WorkedArguments
 pub mod WorkedCalls
+pub mod WorkedLines
+pub mod Logged
+pub mod LoggedLaws
+pub mod WorkedLogged

@@ -1,18 +1,28 @@
--- What a line says that strace(1) wrote with `-f -X raw -e raw=all`: `PID CALL(ARG, ..) = RESULT`, in front of which may
--- stand the time, and `[pid PID]` for PID. It writes the names that calls have on the architecture of the process.
-use Rattle.std.specs.Prelude.{ℕ, ◌==◌, ◌&&◌, ◌||◌, ◌-◌, ◌^◌, nat_eq, nat_le, nat_lt, Bool, false, if◌then◌else◌, List, [], ◌∷◌, ◌++◌, length, take, drop, codes, Option, Some, None}
+-- What a line of a log says. strace(1) writes `PID CALL(ARG, ..) = RESULT`, in front of which may stand the time and the
+-- instruction pointer, and `[pid PID]` for PID. It writes the names that calls have on the architecture of the process. Other
+-- lines are audit records.
+use Rattle.std.specs.Prelude.{ℕ, ◌==◌, ◌&&◌, ◌||◌, ◌-◌, ◌^◌, zero, suc, nat_eq, nat_le, Bool, false, if◌then◌else◌, List, [], ◌∷◌, length, take, drop, codes, Option, Some, None, slice_index_or}
 use Rattle.std.specs.Option.{option_or}
-use Rattle.std.specs.List.{list_all, list_any, starts_with, ends_with, before_first, after_first}
+use Rattle.std.specs.List.{list_all, starts_with, ends_with, before_first, after_first}
 use Rattle.std.specs.Str.{bytes_eq}
 use Rattle.sk_text.specs.Lines.{words_of}
 use Rattle.sk_text.specs.Numbers.{number_of, up_to}
+use Rattle.sk_text.specs.Words.{none_of}
 use Rattle.sk_asm.specs.Grammar.{◌>>=◌}
 use Rattle.sk_names.specs.declared.architecture.Architecture.{Architecture}
+use Rattle.sk_names.specs.declared.architecture.Architecture.TheVariants.{S390x}
 use Rattle.sk_names.specs.Names.{number_on}
 use Rattle.sk_replay.specs.declared.call.Call.{Call}
 use Rattle.sk_replay.specs.declared.line.LogLine.{LogLine}
 use Rattle.sk_replay.specs.declared.line.LogLine.TheVariants.{Made, Event, Unclear}
-use Rattle.sk_replay.specs.Calls.{call_with}
+use Rattle.sk_replay.specs.declared.value.Value.{Value}
+use Rattle.sk_replay.specs.declared.value.Value.TheVariants.{Unknown}
+use Rattle.sk_replay.specs.declared.written.Written.{Written}
+use Rattle.sk_replay.specs.AuditRecords.{audited_call, is_audit_record}
+use Rattle.sk_replay.specs.Calls.{call_begun, call_with}
+use Rattle.sk_replay.specs.Modes.{is_other_mode}
+use Rattle.sk_replay.specs.Nests.{end_from, outside}
+use Rattle.sk_replay.specs.Values.{value_of, written}
 
 -- ---- words
 
@@ -20,24 +30,18 @@ use Rattle.sk_replay.specs.Calls.{call_with}
 unfoldable pub is_mark_byte : ℕ → Bool
 is_mark_byte byte = (nat_le 48 byte && nat_le byte 58) || byte == 46 || byte == 91 || byte == 93
 
--- a word in front of the call: the process, the time
+-- a word in front of the call: the process, the time, the instruction pointer
 unfoldable pub is_mark : List ℕ → Bool
-is_mark word = bytes_eq word (codes "[pid") || list_all is_mark_byte word
+is_mark word =
+    bytes_eq word (codes "[pid") || list_all is_mark_byte word
+    || (starts_with nat_eq word (codes "[") && ends_with nat_eq word (codes "]"))
 
--- the first word of what is no call: the end of a process, a signal, the end of a call that an earlier line begins, and what
--- strace itself tells
+-- the first word of what is no call: the end of a process, a signal, the end of a call that an earlier line begins, what
+-- strace itself tells, of processes and their modes, and where a call came from
 unfoldable pub is_event : List ℕ → Bool
 is_event word =
     bytes_eq word (codes "+++") || bytes_eq word (codes "---") || bytes_eq word (codes "<...") || bytes_eq word (codes "strace:")
-
--- a word without its last byte
-abbrev pub front : List ℕ → List ℕ
-front word = take (length word - 1) word
-
--- an argument of 64 bits: `0`, or `0x` and hexadecimal digits
-unfoldable pub argument_of : List ℕ → Option ℕ
-argument_of word =
-    if bytes_eq word (codes "0") || starts_with nat_eq word (codes "0x") then up_to (2 ^ 64 - 1) (number_of word) else None
+    || bytes_eq word (codes "Process") || bytes_eq word (codes ">")
 
 -- ---- the number
 
@@ -52,70 +56,102 @@ number_in by name = option_or (number_on by name) (number_shown name)
 
 -- ---- the arguments
 
--- `= RESULT`, behind a call that has returned
+-- the text of the first argument, and what stands behind it from its comma or parenthesis on
+abbrev pub first_argument : List ℕ → List ℕ
+first_argument text = take (end_from outside text) text
+
+abbrev pub behind_argument : List ℕ → List ℕ
+behind_argument text = drop (end_from outside text) text
+
+-- that of the last one; no argument where there is no word
+abbrev pub last_value : Written → List ℕ → List (List ℕ) → List Value
+last_value how text [] = []
+last_value how text (word ∷ words) = value_of how text ∷ []
+
+-- the arguments, at most so many, with commas between them; and what stands behind them
+unfoldable pub values_in : Written → ℕ → List ℕ → Option (List Value × List ℕ)
+values_in how zero text = None
+values_in how (suc room) text =
+    if starts_with nat_eq (behind_argument text) (codes ",")
+    then (values_in how room (drop 1 (behind_argument text)) >>= λ rest. Some (value_of how (first_argument text) ∷ rest.0, rest.1))
+    else Some (last_value how (first_argument text) (words_of (first_argument text)), behind_argument text)
+
+-- strace names the arguments of clone(2), and writes the stack before the flags. The registers have them the other way round,
+-- but for s390; in which of them the others stand is not the same everywhere
+abbrev pub clone_registers : Architecture → List Value → List Value
+clone_registers S390x args = slice_index_or args 0 Unknown ∷ slice_index_or args 1 Unknown ∷ Unknown ∷ Unknown ∷ Unknown ∷ []
+clone_registers by args = slice_index_or args 1 Unknown ∷ slice_index_or args 0 Unknown ∷ Unknown ∷ Unknown ∷ Unknown ∷ []
+
+abbrev pub in_registers : Architecture → List ℕ → List Value → List Value
+in_registers by text args = if starts_with nat_eq text (codes "child_stack=") then clone_registers by args else args
+
+-- ---- the call
+
+-- behind a call that has returned: its parenthesis, and `= RESULT`
 abbrev pub is_answer : List (List ℕ) → Bool
 is_answer (first ∷ second ∷ words) = bytes_eq first (codes "=")
 is_answer words = false
 
--- what stands behind a call that has not
-abbrev pub is_unfinished : List (List ℕ) → Bool
-is_unfinished (first ∷ second ∷ []) = bytes_eq first (codes "<unfinished") && bytes_eq second (codes "...>")
-is_unfinished words = false
+unfoldable pub is_returned : List ℕ → Bool
+is_returned text = starts_with nat_eq text (codes ")") && is_answer (words_of (drop 1 text))
 
--- there is no argument
-unfoldable pub is_bare : List ℕ → List (List ℕ) → Bool
-is_bare word words = (bytes_eq word (codes ")") && is_answer words) || (bytes_eq word [] && is_unfinished words)
+-- behind one that has not
+abbrev pub unfinished : List ℕ
+unfinished = codes " <unfinished ...>"
 
--- the last argument
-unfoldable pub last_argument : List ℕ → List (List ℕ) → Option ℕ
-last_argument word words =
-    if ends_with nat_eq word (codes ")") then (if is_answer words then argument_of (front word) else None)
-    else if is_unfinished words then argument_of word
-    else None
+abbrev pub is_unfinished : List ℕ → Bool
+is_unfinished text = ends_with nat_eq text unfinished
 
--- one argument behind the others; a call has at most six
-abbrev pub one_more : List ℕ → ℕ → Option (List ℕ)
-one_more args next = if nat_lt (length args) 6 then Some (args ++ next ∷ []) else None
+abbrev pub begun_part : List ℕ → List ℕ
+begun_part text = take (length text - 17) text
 
--- these arguments and those of the words, with a comma behind each but the last
-unfoldable pub arguments_behind : List ℕ → List ℕ → List (List ℕ) → Option (List ℕ)
-arguments_behind args word [] = None
-arguments_behind args word (next ∷ words) =
-    if ends_with nat_eq word (codes ",") then (do
-      given ← argument_of (front word)
-      more ← one_more args given
-      arguments_behind more next words)
-    else (do
-      given ← last_argument word (next ∷ words)
-      one_more args given)
+-- a call, of which a line shows all, from behind its opening parenthesis on
+unfoldable pub whole_call : Architecture → Written → ℕ → List ℕ → Option Call
+whole_call by how nr text = do
+  shown ← values_in how 6 text
+  if is_returned shown.1 then Some (call_with nr (in_registers by text shown.0)) else None
 
--- those of a call, whose opening parenthesis the first word stands behind
-unfoldable pub arguments_of : List ℕ → List (List ℕ) → Option (List ℕ)
-arguments_of word words = if is_bare word words then Some [] else arguments_behind [] word words
+-- one of which it shows the beginning
+unfoldable pub begun_call : Architecture → Written → ℕ → List ℕ → Option Call
+begun_call by how nr text = do
+  shown ← values_in how 6 (begun_part text)
+  none ← none_of (words_of shown.1)
+  Some (call_begun nr (in_registers by text shown.0))
+
+abbrev pub call_of : Architecture → Written → ℕ → List ℕ → Option Call
+call_of by how nr text = if is_unfinished text then begun_call by how nr text else whole_call by how nr text
 
 -- ---- the line
 
--- a call: its name, an opening parenthesis (40), and its arguments
-unfoldable pub call_in : Architecture → List ℕ → List (List ℕ) → Option Call
-call_in by word words =
-    if list_any (λ byte. byte == 40) word then (do
-      nr ← number_in by (before_first (λ byte. byte == 40) word)
-      args ← arguments_of (after_first (λ byte. byte == 40) word) words
-      Some (call_with nr args))
-    else None
+-- a call: its name, in front of which other words are marks, and what stands behind its opening parenthesis
+unfoldable pub call_in : Architecture → List ℕ → List (List ℕ) → List ℕ → Option Call
+call_in by name words text = do
+  none ← none_of words
+  nr ← number_in by name
+  call_of by (written by name) nr text
 
 abbrev pub made_or : Option Call → LogLine
 made_or None = Unclear
 made_or (Some call) = Made call
 
+-- an event; but that the calls which follow are not of this architecture is not understood
+abbrev pub event_or : Architecture → List ℕ → List (List ℕ) → LogLine
+event_or by word words = if is_other_mode by word words then Unclear else Event
+
+-- the call of an audit record, which has its type in front of the first parenthesis, or else of a line of strace
+abbrev pub call_at : Architecture → List ℕ → List (List ℕ) → List ℕ → Option Call
+call_at by word words text =
+    if is_audit_record (word ∷ words) then audited_call by (words_of text) else call_in by word words text
+
 -- from the first word on that is no mark
-unfoldable pub said_at : Architecture → List ℕ → List (List ℕ) → LogLine
-said_at by word words = if is_event word then Event else made_or (call_in by word words)
+unfoldable pub said_at : Architecture → List ℕ → List (List ℕ) → List ℕ → LogLine
+said_at by word words text = if is_event word then event_or by word words else made_or (call_at by word words text)
 
-abbrev pub said : Architecture → List (List ℕ) → LogLine
-said by [] = Unclear
-said by (word ∷ words) = if is_mark word then said by words else said_at by word words
+abbrev pub said : Architecture → List (List ℕ) → List ℕ → LogLine
+said by [] text = Unclear
+said by (word ∷ words) text = if is_mark word then said by words text else said_at by word words text
 
--- what a line says: a call, an event that is none, or nothing that is understood
+-- what a line says, by its words before the first `(` (40), of which the first may be marks, and what stands behind it: a call,
+-- an event that is none, or nothing that is understood
 abbrev pub line_of : Architecture → List ℕ → LogLine
-line_of by line = said by (words_of line)
+line_of by line = said by (words_of (before_first (λ byte. byte == 40) line)) (after_first (λ byte. byte == 40) line)

@@ -1,5 +1,5 @@
 -- The text of `ask replay`: the verdicts on the calls of a log, which a process of some architecture made.
-use Rattle.std.specs.Prelude.{ℕ, nat_eq, ◌+◌, ◌==◌, ◌||◌, ◌&&◌, not, Bool, false, true, if◌then◌else◌, List, [], ◌∷◌, ◌++◌, length, map, filter, flat_map, take, codes, Option, Some, None}
+use Rattle.std.specs.Prelude.{ℕ, nat_lt, ◌+◌, ◌==◌, ◌||◌, ◌&&◌, not, Bool, false, true, if◌then◌else◌, List, [], ◌∷◌, ◌++◌, length, map, filter, flat_map, take, codes, Option, Some, None}
 use Rattle.std.specs.Bool.{beq}
 use Rattle.std.specs.Fmt.{decimal, radix_digits}
 use Rattle.std.specs.List.{count_by, list_any}
@@ -10,7 +10,6 @@ use Rattle.std.specs.Cmp.Lexicographic.{pointwise}
 use Rattle.sk_text.specs.Lines.{lines_of}
 use Rattle.sk_insn.specs.declared.insn.Insn.{Insn}
 use Rattle.sk_insn.specs.Actions.{action_of, performs}
-use Rattle.sk_filter.specs.Verdict.{verdict_of}
 use Rattle.sk_filter.specs.VerdictText.{verdict_text}
 use Rattle.sk_names.specs.declared.architecture.Architecture.{Architecture}
 use Rattle.sk_names.specs.Names.{name_on}
@@ -18,7 +17,11 @@ use Rattle.sk_replay.specs.declared.call.Call.{Call}
 use Rattle.sk_replay.specs.declared.line.LogLine.{LogLine}
 use Rattle.sk_replay.specs.declared.line.LogLine.TheVariants.{Made, Event, Unclear}
 use Rattle.sk_replay.specs.declared.row.Row.{Row}
-use Rattle.sk_replay.specs.Calls.{record_of}
+use Rattle.sk_replay.specs.declared.judged.Judged.{Judged}
+use Rattle.sk_replay.specs.declared.judged.Judged.TheVariants.{Verdict, Undecided}
+use Rattle.sk_replay.specs.declared.value.Value.{Value}
+use Rattle.sk_replay.specs.declared.value.Value.TheVariants.{Told, Unknown}
+use Rattle.sk_replay.specs.Judging.{judged_of}
 use Rattle.sk_replay.specs.Lines.{line_of}
 
 -- ---- the calls of a log
@@ -50,11 +53,35 @@ events_in by lines = count_by (λ line. is_event (line_of by line)) lines
 abbrev pub unclear_in : Architecture → List (List ℕ) → ℕ
 unclear_in by lines = count_by (λ line. is_unclear (line_of by line)) lines
 
+-- this many of them are told by their numbers
+abbrev pub most_told : ℕ
+most_told = 8
+
+-- the number of a line, if it is not understood, in front of others
+abbrev pub onto_numbers : ℕ → LogLine → List ℕ → List ℕ
+onto_numbers number Unclear numbers = number ∷ numbers
+onto_numbers number line numbers = numbers
+
+-- the numbers of those lines that are not understood, where the first one has this number
+abbrev pub unclear_from : Architecture → ℕ → List (List ℕ) → List ℕ
+unclear_from by number [] = []
+unclear_from by number (line ∷ lines) = onto_numbers number (line_of by line) (unclear_from by (number + 1) lines)
+
+-- those of a log, from 1 on
+abbrev pub unclear_lines : Architecture → List (List ℕ) → List ℕ
+unclear_lines by lines = take most_told (unclear_from by 1 lines)
+
 -- ---- each call once
+
+-- the same number, or both are not known
+abbrev pub same_value : Value → Value → Bool
+same_value (Told a) (Told b) = a == b
+same_value Unknown Unknown = true
+same_value a b = false
 
 -- the same number and the same arguments
 abbrev pub is_same : Call → Call → Bool
-is_same a b = a.nr == b.nr && (a.shown == b.shown && pointwise nat_eq a.args b.args)
+is_same a b = a.nr == b.nr && (a.shown == b.shown && pointwise same_value a.args b.args)
 
 -- the calls without those that came before, in the order in which they first came
 abbrev pub each_once : List Call → List Call
@@ -83,26 +110,39 @@ with_line (Made call) entries = with_call call entries
 with_line Event entries = entries
 with_line Unclear entries = entries
 
+-- the numbers after a line with this number
+abbrev pub with_number : List ℕ → ℕ → LogLine → List ℕ
+with_number numbers number line = if nat_lt (length numbers) most_told then numbers ++ onto_numbers number line [] else numbers
+
 -- ---- rows
 
--- the row of a call: how often it was made, and the value that the filters give it
+-- the row of a call: how often it was made, and what the filters say of it
 abbrev pub row_of : Architecture → List (List Insn) → Call × ℕ → Row
-row_of by chain entry = record { call = entry.0; times = entry.1; value = verdict_of chain (record_of by entry.0) }
+row_of by chain entry = record { call = entry.0; times = entry.1; judged = judged_of by chain entry.0 }
 
 abbrev pub rows_of : Architecture → List (List Insn) → List (List ℕ) → List Row
 rows_of by chain lines = map (row_of by chain) (tallied (calls_of by lines))
 
--- the call is performed
+-- the call is performed, whatever the arguments are that the log does not show
+abbrev pub judged_performed : Judged → Bool
+judged_performed (Verdict value) = performs (action_of value)
+judged_performed (Undecided i) = false
+
 abbrev pub is_performed : Row → Bool
-is_performed row = performs (action_of row.value)
+is_performed row = judged_performed row.judged
 
 -- ---- the text
 
--- an argument as strace writes it: `0`, or `0x` and hexadecimal digits
-unfoldable pub argument_text : ℕ → List ℕ
-argument_text value = if value == 0 then codes "0" else codes "0x" ++ radix_digits 16 false value
+-- a number as strace writes it with `-e raw=all`: `0`, or `0x` and hexadecimal digits
+unfoldable pub number_text : ℕ → List ℕ
+number_text number = if number == 0 then codes "0" else codes "0x" ++ radix_digits 16 false number
 
-abbrev pub arguments_text : List ℕ → List ℕ
+-- an argument: `?` where the log shows no number
+abbrev pub argument_text : Value → List ℕ
+argument_text (Told number) = number_text number
+argument_text Unknown = codes "?"
+
+abbrev pub arguments_text : List Value → List ℕ
 arguments_text [] = []
 arguments_text (first ∷ others) = argument_text first ++ flat_map (λ other. codes ", " ++ argument_text other) others
 
@@ -116,10 +156,15 @@ unfoldable pub call_text : Architecture → Call → List ℕ
 call_text by call =
     name_text (name_on by call.nr) call.nr ++ (codes "(" ++ (arguments_text (take call.shown call.args) ++ codes ")"))
 
--- a row: how often, the call, the verdict
+-- what filters say of it: the verdict, or the argument that this depends on
+abbrev pub judged_text : Judged → List ℕ
+judged_text (Verdict value) = verdict_text value
+judged_text (Undecided i) = codes "depends on args[" ++ (decimal i ++ codes "], which the log does not show")
+
+-- a row: how often, the call, what is said of it
 unfoldable pub row_text : Architecture → Row → List ℕ
 row_text by row =
-    decimal row.times ++ (codes " " ++ (call_text by row.call ++ (codes " " ++ (verdict_text row.value ++ codes "\n"))))
+    decimal row.times ++ (codes " " ++ (call_text by row.call ++ (codes " " ++ (judged_text row.judged ++ codes "\n"))))
 
 -- the row, if it is performed, or if it is not
 unfoldable pub one_text : Architecture → Bool → Row → List ℕ
@@ -149,7 +194,7 @@ abbrev pub replay_text : Architecture → List ℕ → List (List Insn) → List
 replay_text by log chain =
     tally_text by (rows_of by chain (lines_of log)) (events_in by (lines_of log)) (unclear_in by (lines_of log))
 
--- some call is not performed, or a line is not understood, which may be one that is not
+-- some call is not performed or may not be, or a line is not understood, which may be one that is not
 abbrev pub tally_denies : List Row → ℕ → Bool
 tally_denies rows unclear = list_any (λ row. not (is_performed row)) rows || not (unclear == 0)
 

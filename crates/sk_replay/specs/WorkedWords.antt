@@ -34,7 +34,9 @@ pub record WorkedWords : Type 0 where
   pub behind : call_of architecture.X86_64 (codes "read(1) = 3") ≡ Err unclosed
   pub closed_twice : call_of architecture.X86_64 (codes "read(1))") ≡ Err unclosed
   pub opened_twice : call_of architecture.X86_64 (codes "read((1)") ≡ Err (wrong 1 (codes "(1"))
-  pub octal : call_of architecture.X86_64 (codes "getpid(010)") ≡ Err (wrong 1 (codes "010"))
+  pub octal : call_of architecture.X86_64 (codes "chmod(1, 0755)") ≡ Ok (calls 90 (1 ∷ 493 ∷ 0 ∷ 0 ∷ 0 ∷ 0 ∷ []))
+  pub no_octal : call_of architecture.X86_64 (codes "getpid(08)") ≡ Err (wrong 1 (codes "08"))
+  pub null : call_of architecture.X86_64 (codes "brk(NULL)") ≡ Ok (calls 12 no_arguments)
   pub empty_last : call_of architecture.X86_64 (codes "getpid(1,)") ≡ Err (wrong 2 [])
   pub empty_between : call_of architecture.X86_64 (codes "getpid(1,,x)") ≡ Err (wrong 2 [])
   pub empty_both : call_of architecture.X86_64 (codes "getpid(,)") ≡ Err (wrong 1 [])
@@ -57,7 +59,10 @@ pub record WorkedWords : Type 0 where
   pub minus_alone : argument_of (codes "-") ≡ Err (codes "-")
   pub plus : argument_of (codes "+1") ≡ Err (codes "+1")
   pub zero : argument_of (codes "0") ≡ Ok 0
-  pub zeros : argument_of (codes "00") ≡ Err (codes "00")
+  pub zeros : argument_of (codes "00") ≡ Ok 0
+  pub largest_octal : argument_of (codes "01777777777777777777777") ≡ Ok 18446744073709551615
+  pub past_the_largest_octal : argument_of (codes "02000000000000000000000") ≡ Err (codes "02000000000000000000000")
+  pub kind_and_mode : argument_of (codes "S_IFREG|0644") ≡ Ok 33188
   pub name_of_zero : nr_of architecture.X86_64 (codes "read") ≡ Some 0
   pub number_without_a_name : nr_of architecture.X86_64 (codes "1000") ≡ Some 1000
   pub on_i386 : call_of architecture.I386 (codes "socketcall(1)") ≡ Ok (record { nr = 102; arch = 1073741827; ip = 0; args = 1 ∷ 0 ∷ 0 ∷ 0 ∷ 0 ∷ 0 ∷ [] })

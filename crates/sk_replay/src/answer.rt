@@ -14,6 +14,8 @@ pub struct Replay {
     pub events: u64,
     /// How many lines are not understood.
     pub unclear: u64,
+    /// The numbers of the first eight of these, from 1 on.
+    pub unclear_lines: Vec<u64>,
 }
 
 impl Replay {

@@ -1,14 +1,15 @@
 //! The arguments of a call.
 ghost use Rattle.std.specs.Prelude.{◌≡◌, ◌≤◌, length};
 ghost use Rattle.sk_replay.specs.Answers.{number_or_part};
-ghost use Rattle.sk_replay.specs.CallWords.{argument_of, arguments_of, below_zero, cut_all, given_in, negative_number, negative_of, number_or_constant, part_of, six_or_fault, with_bits};
+ghost use Rattle.sk_replay.specs.CallWords.{argument_of, arguments_of, below_zero, cut_all, given_in, negative_number, negative_of, number_in_c, number_or_constant, part_of, six_or_fault, with_bits};
 ghost use Rattle.sk_replay.specs.Faults.{said};
 
 use crate::cuts::{commas, first_piece};
 use crate::fault::CallFault;
 use crate::named::plain_number;
+use crate::octal::octal_number;
 use sk_arguments::number_of_constant;
-use sk_text::{Words, one_word};
+use sk_text::{Words, is_same, one_word};
 
 /// The most arguments that a call has.
 const MOST_ARGUMENTS: usize = 6;
@@ -53,9 +54,9 @@ fn numbers(inside: &[u8]) -> Result<[u64; 6], CallFault<'_>>
     Ok(args)
 }
 
-// The number of an argument, or the part of it that is none.
+/// The number of an argument, or the part of it that is none.
 #[tactic(auto, unfolding(crate::specs::CallWords::argument_of))]
-fn argument(text: &[u8]) -> Result<u64, &[u8]>
+pub(crate) fn argument(text: &[u8]) -> Result<u64, &[u8]>
     ensures number { number_or_part result ≡ argument_of text.now }
 {
     match negative(text) {
@@ -107,8 +108,22 @@ fn part_number(text: &[u8]) -> Result<u64, &[u8]>
     ensures number { number_or_part result ≡ part_of text.now }
 {
     match one_word(Words(text)) {
-        Some(word) => number_or_constant(word).ok_or(word),
+        Some(word) => number_in_c(word).ok_or(word),
         None => Err(text),
+    }
+}
+
+// The number that a word is in C, where a 0 before it makes it octal, and `NULL` is 0; or that of a constant.
+#[tactic(auto, unfolding(crate::specs::CallWords::number_in_c))]
+fn number_in_c(word: &[u8]) -> Option<u64>
+    ensures number { result ≡ number_in_c word.now }
+{
+    if is_same(word, b"NULL") {
+        return Some(0);
+    }
+    match number_or_constant(word) {
+        Some(number) => Some(number),
+        None => octal_number(word),
     }
 }
 

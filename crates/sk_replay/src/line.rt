@@ -1,14 +1,17 @@
 //! What one line of a log says.
-ghost use Rattle.std.specs.Prelude.{◌≡◌, ◌++◌, ◌∷◌, [], Some, None};
-ghost use Rattle.std.specs.List.{list_all};
-ghost use Rattle.std.specs.Option.{option_map};
+ghost use Rattle.std.specs.Prelude.{◌≡◌, Some, None, codes, nat_eq};
+ghost use Rattle.std.specs.List.{list_all, starts_with};
 ghost use Rattle.sk_text.specs.Lines.{words_of};
-ghost use Rattle.sk_replay.specs.Lines.{is_mark_byte, is_mark, is_event, argument_of, number_shown, number_in, is_answer, is_unfinished, is_bare, last_argument, one_more, arguments_behind, arguments_of, call_in, said_at, said, line_of};
+ghost use Rattle.sk_replay.specs.Lines.{begun_call, begun_part, call_at, call_in, call_of, clone_registers, event_or, in_registers, is_answer, is_event, is_mark, is_mark_byte, is_returned, is_unfinished, line_of, number_in, number_shown, said, said_at, unfinished, whole_call};
 
-use crate::call::Call;
-use arrayvec::ArrayVec;
+use crate::audit::{audited_call, is_audit_record};
+use crate::call::{Call, value_at};
+use crate::mode::is_other_mode;
+use crate::shown::Shown;
+use crate::value::Value;
+use crate::written::Written;
 use sk_names::{Architecture, number};
-use sk_text::{Words, cut, is_same, number_up_to, two_words};
+use sk_text::{Words, cut, is_same, no_word, number_up_to};
 
 /// What a line says.
 #[derive(Clone, Copy, Debug, PartialEq, Eq)]
@@ -21,8 +24,8 @@ pub enum LogLine {
     Unclear,
 }
 
-// The arguments of a call.
-type Arguments = ArrayVec<u64, 6>;
+/// What stands behind a call that has not returned.
+const UNFINISHED: &[u8] = b" <unfinished ...>";
 
 impl LogLine {
     /// What this line says of a process of an architecture.
@@ -30,36 +33,61 @@ impl LogLine {
     pub(crate) fn of(architecture: Architecture, line: &[u8]) -> LogLine
         ensures line { result ≡ line_of architecture line.now }
     {
-        let mut words = Words(line);
+        let (before, text) = cut(line, b'(');
+        let mut words = Words(before);
         while let Some(word) = words.next() {
             if !is_mark(word) {
-                return said_at(architecture, word, words);
+                return said_at(architecture, word, words, text);
             }
         }
         LogLine::Unclear
     }
 }
 
-// What the words say from the first on that is no mark.
+// What the words say from the first on that is no mark, and the text behind them.
 #[tactic(auto, unfolding(crate::specs::Lines::said_at))]
-fn said_at(architecture: Architecture, word: &[u8], words: Words<'_>) -> LogLine
-    ensures said { result ≡ said_at architecture word.now (words_of words.entry.0.now) }
+fn said_at(architecture: Architecture, word: &[u8], words: Words<'_>, text: &[u8]) -> LogLine
+    ensures said { result ≡ said_at architecture word.now (words_of words.entry.0.now) text.now }
 {
     if is_event(word) {
-        return LogLine::Event;
+        return event_or(architecture, word, words);
     }
-    match call_in(architecture, word, words) {
+    match call_at(architecture, word, words, text) {
         Some(call) => LogLine::Made(call),
         None => LogLine::Unclear,
     }
 }
 
-// Whether a word stands in front of the call: the process, the time.
+// An event; but that the calls which follow are not of the architecture is not understood.
+fn event_or(architecture: Architecture, word: &[u8], words: Words<'_>) -> LogLine
+    ensures said { result ≡ event_or architecture word.now (words_of words.entry.0.now) }
+{
+    if is_other_mode(architecture, word, words) {
+        LogLine::Unclear
+    } else {
+        LogLine::Event
+    }
+}
+
+// The call of an audit record, or else of a line of strace.
+fn call_at(architecture: Architecture, word: &[u8], words: Words<'_>, text: &[u8]) -> Option<Call>
+    ensures call { result ≡ call_at architecture word.now (words_of words.entry.0.now) text.now }
+{
+    if is_audit_record(word, Words(words.0)) {
+        audited_call(architecture, text)
+    } else {
+        call_in(architecture, word, words, text)
+    }
+}
+
+// Whether a word stands in front of the call: the process, the time, the instruction pointer.
 #[tactic(auto, unfolding(crate::specs::Lines::is_mark))]
 fn is_mark(word: &[u8]) -> bool
     ensures mark { result ≡ is_mark word.now }
 {
-    is_same(word, b"[pid") || are_mark_bytes(word)
+    is_same(word, b"[pid")
+        || are_mark_bytes(word)
+        || (word.starts_with(b"[") && word.ends_with(b"]"))
 }
 
 fn are_mark_bytes(word: &[u8]) -> bool
@@ -84,19 +112,81 @@ fn is_event(word: &[u8]) -> bool
         || is_same(word, b"---")
         || is_same(word, b"<...")
         || is_same(word, b"strace:")
+        || is_same(word, b"Process")
+        || is_same(word, b">")
 }
 
+// The call with a name, where no word stands behind that, and with the arguments in a text.
 #[tactic(auto, unfolding(crate::specs::Lines::call_in))]
-fn call_in(architecture: Architecture, word: &[u8], words: Words<'_>) -> Option<Call>
-    ensures call { result ≡ call_in architecture word.now (words_of words.entry.0.now) }
+fn call_in(architecture: Architecture, name: &[u8], words: Words<'_>, text: &[u8]) -> Option<Call>
+    ensures call { result ≡ call_in architecture name.now (words_of words.entry.0.now) text.now }
 {
-    if !word.contains(&b'(') {
+    no_word(words)?;
+    let nr = number_in(architecture, name)?;
+    call_of(architecture, Written::of(architecture, name), nr, text)
+}
+
+fn call_of(architecture: Architecture, written: Written, nr: u32, text: &[u8]) -> Option<Call>
+    ensures call { result ≡ call_of architecture written nr text.now }
+{
+    if text.ends_with(UNFINISHED) {
+        begun_call(architecture, written, nr, text)
+    } else {
+        whole_call(architecture, written, nr, text)
+    }
+}
+
+#[tactic(auto, unfolding(crate::specs::Lines::whole_call))]
+fn whole_call(architecture: Architecture, written: Written, nr: u32, text: &[u8]) -> Option<Call>
+    ensures call { result ≡ whole_call architecture written nr text.now }
+{
+    let shown = Shown::of(written, text)?;
+    if !is_returned(shown.behind) {
         return None;
     }
-    let (name, first) = cut(word, b'(');
-    let nr = number_in(architecture, name)?;
-    let args = arguments(first, words)?;
-    Some(Call::with(nr, args.as_slice()))
+    if is_named(text) {
+        return Some(Call::with(nr, &clone_registers(architecture, shown.args.as_slice())));
+    }
+    Some(Call::with(nr, shown.args.as_slice()))
+}
+
+#[tactic(auto, unfolding(crate::specs::Lines::begun_call))]
+fn begun_call(architecture: Architecture, written: Written, nr: u32, text: &[u8]) -> Option<Call>
+    ensures call { result ≡ begun_call architecture written nr text.now }
+{
+    let begun = &text[..text.len().saturating_sub(UNFINISHED.len())];
+    let shown = Shown::of(written, begun)?;
+    no_word(Words(shown.behind))?;
+    if is_named(text) {
+        return Some(Call::begun(nr, &clone_registers(architecture, shown.args.as_slice())));
+    }
+    Some(Call::begun(nr, shown.args.as_slice()))
+}
+
+// Whether these are the arguments of clone, which strace names.
+fn is_named(text: &[u8]) -> bool
+    ensures named { result ≡ starts_with nat_eq text.now (codes "child_stack=") }
+{
+    text.starts_with(b"child_stack=")
+}
+
+// The registers of clone with arguments of which strace writes the stack first.
+fn clone_registers(architecture: Architecture, args: &[Value]) -> [Value; 5]
+    ensures registers { result ≡ clone_registers architecture args.now }
+{
+    let stack = value_at(args, 0, Value::Unknown);
+    let flags = value_at(args, 1, Value::Unknown);
+    let (first, second) = match architecture {
+        Architecture::S390x => (stack, flags),
+        _ => (flags, stack),
+    };
+    [
+        first,
+        second,
+        Value::Unknown,
+        Value::Unknown,
+        Value::Unknown,
+    ]
 }
 
 fn number_in(architecture: Architecture, name: &[u8]) -> Option<u32>
@@ -120,84 +210,12 @@ fn number_shown(name: &[u8]) -> Option<u32>
     Some(nr as u32)
 }
 
-#[tactic(auto, unfolding(crate::specs::Lines::arguments_of))]
-fn arguments(first: &[u8], words: Words<'_>) -> Option<Arguments>
-    ensures all { option_map (λ args. args.items) result ≡ arguments_of first.now (words_of words.entry.0.now) }
+// Whether a call has returned: its parenthesis stands here, and its result.
+#[tactic(auto, unfolding(crate::specs::Lines::is_returned))]
+fn is_returned(text: &[u8]) -> bool
+    ensures returned { result ≡ is_returned text.now }
 {
-    let rest = words.0;
-    if is_bare(first, Words(rest)) {
-        return Some(ArrayVec::new());
-    }
-    listed(first, Words(rest))
-}
-
-// Arguments with a comma behind each but the last.
-fn listed(first: &[u8], mut words: Words<'_>) -> Option<Arguments>
-    ensures all { option_map (λ args. args.items) result ≡ arguments_behind [] first.now (words_of words.entry.0.now) }
-{
-    let mut args = ArrayVec::new();
-    let mut word = first;
-    while word.ends_with(b",") {
-        let next = words.next()?;
-        let given = argument(&word[..word.len() - 1])?;
-        push(&mut args, given)?;
-        word = next;
-    }
-    let last = last_argument(word, words)?;
-    with_last(args, last)
-}
-
-fn with_last(mut args: Arguments, last: u64) -> Option<Arguments>
-    ensures all { option_map (λ args. args.items) result ≡ one_more args.items last }
-{
-    push(&mut args, last)?;
-    Some(args)
-}
-
-// Puts one argument behind the others, if there is room.
-fn push(args: &mut Arguments, given: u64) -> Option<()>
-    ensures pushed { option_map (λ done. args.new.items) result ≡ one_more args.old.items given }
-{
-    args.try_push(given).ok()
-}
-
-#[tactic(auto, unfolding(crate::specs::Lines::argument_of))]
-fn argument(word: &[u8]) -> Option<u64>
-    ensures argument { result ≡ argument_of word.now }
-{
-    if is_same(word, b"0") || word.starts_with(b"0x") {
-        number_up_to(word, u64::MAX)
-    } else {
-        None
-    }
-}
-
-#[tactic(auto, unfolding(crate::specs::Lines::last_argument))]
-fn last_argument(word: &[u8], words: Words<'_>) -> Option<u64>
-    ensures last { result ≡ last_argument word.now (words_of words.entry.0.now) }
-{
-    let rest = words.0;
-    if word.ends_with(b")") {
-        if is_answer(Words(rest)) {
-            argument(&word[..word.len() - 1])
-        } else {
-            None
-        }
-    } else if is_unfinished(Words(rest)) {
-        argument(word)
-    } else {
-        None
-    }
-}
-
-// Whether there is no argument.
-#[tactic(auto, unfolding(crate::specs::Lines::is_bare))]
-fn is_bare(word: &[u8], words: Words<'_>) -> bool
-    ensures bare { result ≡ is_bare word.now (words_of words.entry.0.now) }
-{
-    let rest = words.0;
-    (is_same(word, b")") && is_answer(Words(rest)))
-        || (is_same(word, b"") && is_unfinished(Words(rest)))
+    text.starts_with(b")") && is_answer(Words(&text[1..]))
 }
 
 // Whether these words are a call's result.
@@ -206,16 +224,6 @@ fn is_answer(mut words: Words<'_>) -> bool
 {
     match words.next() {
         Some(first) => words.next().is_some() && is_same(first, b"="),
-        None => false,
-    }
-}
-
-// Whether these words stand behind a call that has not returned.
-fn is_unfinished(words: Words<'_>) -> bool
-    ensures unfinished { result ≡ is_unfinished (words_of words.entry.0.now) }
-{
-    match two_words(words) {
-        Some((first, second)) => is_same(first, b"<unfinished") && is_same(second, b"...>"),
         None => false,
     }
 }

@@ -1,7 +1,7 @@
 //! The verdicts on the calls of a log.
 ghost use Rattle.std.specs.Prelude.{◌≡◌, IfOk, length, map};
 ghost use Rattle.sk_text.specs.Lines.{lines_of};
-ghost use Rattle.sk_replay.specs.Replaying.{distinct_calls, events_in, row_of, rows_of, unclear_in};
+ghost use Rattle.sk_replay.specs.Replaying.{distinct_calls, events_in, row_of, rows_of, unclear_in, unclear_lines};
 
 use crate::answer::Replay;
 use crate::call::Call;
@@ -12,8 +12,8 @@ use sk_filter::Chain;
 use sk_names::Architecture;
 use std::alloc::{AllocError, Global};
 
-/// The verdicts on the calls of the log of a process of an architecture. No log has the instruction pointer of a call, which
-/// is 0 here. There are as many rows as distinct calls.
+/// The verdicts on the calls of the log of a process of an architecture. The instruction pointer of each call is 0. There are
+/// as many rows as distinct calls.
 pub fn replay(
     alloc: Global,
     architecture: Architecture,
@@ -24,6 +24,7 @@ pub fn replay(
     ensures calls { IfOk result (λ replay. length replay.rows.items ≡ distinct_calls architecture log.now) }
     ensures events { IfOk result (λ replay. replay.events ≡ events_in architecture (lines_of log.now)) }
     ensures unclear { IfOk result (λ replay. replay.unclear ≡ unclear_in architecture (lines_of log.now)) }
+    ensures lines { IfOk result (λ replay. replay.unclear_lines.items ≡ unclear_lines architecture (lines_of log.now)) }
 {
     let tally = Tally::of(alloc, architecture, log)?;
     let rows = rows_of(alloc, architecture, &tally.calls, chain)?;
@@ -31,6 +32,7 @@ pub fn replay(
         rows,
         events: tally.events,
         unclear: tally.unclear,
+        unclear_lines: tally.unclear_lines,
     })
 }
 
@@ -44,7 +46,8 @@ fn rows_of(
 {
     let mut rows = Vec::new(alloc);
     for (call, times) in calls {
-        rows.push(Row::of(architecture, chain, *call, *times))?;
+        let row = Row::of(alloc, architecture, chain, *call, *times)?;
+        rows.push(row)?;
     }
     Ok(rows)
 }

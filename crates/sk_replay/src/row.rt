@@ -1,36 +1,48 @@
 //! A call of a log and its verdict.
-ghost use Rattle.std.specs.Prelude.{◌≡◌};
-ghost use Rattle.sk_replay.specs.Replaying.{row_of, is_performed};
+ghost use Rattle.std.specs.Prelude.{◌≡◌, IfOk};
+ghost use Rattle.sk_replay.specs.Replaying.{is_performed, row_of};
 
 use crate::call::Call;
+use crate::judged::Judged;
 use sk_filter::Chain;
 use sk_insn::Action;
 use sk_names::Architecture;
+use std::alloc::{AllocError, Global};
 
-/// A call, how often it was made, and the value that filters give it.
+/// A call, how often it was made, and what filters say of it.
 #[derive(Clone, Copy, Debug)]
 pub struct Row {
     pub call: Call,
     pub times: u64,
-    pub value: u32,
+    pub judged: Judged,
 }
 
 impl Row {
-    /// The row of a call that was made so often, with the value that the chain gives it.
-    pub(crate) fn of(architecture: Architecture, chain: &Chain, call: Call, times: u64) -> Row
-        ensures row { result ≡ row_of architecture chain.now (call, times) }
+    /// The row of a call that was made so often, with what the chain says of it.
+    pub(crate) fn of(
+        alloc: Global,
+        architecture: Architecture,
+        chain: &Chain,
+        call: Call,
+        times: u64,
+    ) -> Result<Row, AllocError>
+        ensures row { IfOk result (λ row. row ≡ row_of architecture chain.now (call, times)) }
     {
-        Row {
+        let judged = Judged::of(alloc, architecture, chain, &call)?;
+        Ok(Row {
             call,
             times,
-            value: chain.verdict(&call.record(architecture)),
-        }
+            judged,
+        })
     }
 
-    /// Whether the call is performed.
+    /// Whether the call is performed, whatever the arguments are that the log does not show.
     pub fn is_performed(&self) -> bool
         ensures performed { result ≡ is_performed self.now }
     {
-        Action::of(self.value).performs()
+        match self.judged {
+            Judged::Verdict(value) => Action::of(value).performs(),
+            Judged::Undecided(_) => false,
+        }
     }
 }

@@ -1,11 +1,13 @@
 //! The text of a replay.
 ghost use Rattle.std.specs.Prelude.{◌≡◌, ◌++◌, IfOk, OnOk, codes, false, flat_map, string_bytes, true};
 ghost use Rattle.sk_names.specs.Names.{name_on};
-ghost use Rattle.sk_replay.specs.Replaying.{argument_text, arguments_text, name_text, call_text, row_text, one_text, part_text, count_text, tally_text};
+ghost use Rattle.sk_replay.specs.Replaying.{argument_text, arguments_text, name_text, number_text, call_text, judged_text, row_text, one_text, part_text, count_text, tally_text};
 
 use crate::answer::Replay;
 use crate::call::Call;
+use crate::judged::Judged;
 use crate::row::Row;
+use crate::value::Value;
 use sk_filter::push_verdict;
 use sk_names::{Architecture, name};
 use std::alloc::{AllocError, Global};
@@ -24,6 +26,7 @@ pub fn replay_text(
         rows,
         events,
         unclear,
+        unclear_lines: _,
     } = replay;
     tally_text(alloc, architecture, rows, *events, *unclear)
 }
@@ -120,15 +123,28 @@ fn push_one(
 fn push_row(text: &mut String, architecture: Architecture, row: &Row) -> Result<(), AllocError>
     ensures text { OnOk result (string_bytes text.new ≡ string_bytes text.old ++ row_text architecture row.now) }
 {
-    let Row { call, times, value } = *row;
+    let Row {
+        call,
+        times,
+        judged,
+    } = *row;
     write!(text, "{times} ")?;
     push_call(text, architecture, call)?;
     text.push_str(" ")?;
-    push_verdict(text, value)?;
+    push_judged(text, judged)?;
     text.push_str("\n")
 }
 
-/// Writes a call as strace(1) does.
+fn push_judged(text: &mut String, judged: Judged) -> Result<(), AllocError>
+    ensures text { OnOk result (string_bytes text.new ≡ string_bytes text.old ++ judged_text judged) }
+{
+    match judged {
+        Judged::Verdict(value) => push_verdict(text, value),
+        Judged::Undecided(i) => write!(text, "depends on args[{i}], which the log does not show"),
+    }
+}
+
+/// Writes a call as strace(1) does with `-e raw=all`, with `?` for what the log shows no number of.
 #[tactic(auto, unfolding(crate::specs::Replaying::call_text))]
 pub fn push_call(
     text: &mut String,
@@ -152,7 +168,7 @@ fn push_name(text: &mut String, architecture: Architecture, nr: u32) -> Result<(
     }
 }
 
-fn push_arguments(text: &mut String, args: &[u64]) -> Result<(), AllocError>
+fn push_arguments(text: &mut String, args: &[Value]) -> Result<(), AllocError>
     ensures text { OnOk result (string_bytes text.new ≡ string_bytes text.old ++ arguments_text args.now) }
 {
     let Some((first, others)) = args.split_first() else {
@@ -162,7 +178,7 @@ fn push_arguments(text: &mut String, args: &[u64]) -> Result<(), AllocError>
     push_others(text, others)
 }
 
-fn push_others(text: &mut String, args: &[u64]) -> Result<(), AllocError>
+fn push_others(text: &mut String, args: &[Value]) -> Result<(), AllocError>
     ensures text { OnOk result (string_bytes text.new ≡
         string_bytes text.old ++ flat_map (λ other. codes ", " ++ argument_text other) args.now) }
 {
@@ -172,21 +188,30 @@ fn push_others(text: &mut String, args: &[u64]) -> Result<(), AllocError>
     Ok(())
 }
 
-fn push_other(text: &mut String, argument: u64) -> Result<(), AllocError>
+fn push_other(text: &mut String, argument: Value) -> Result<(), AllocError>
     ensures text { OnOk result (string_bytes text.new ≡ string_bytes text.old ++ (codes ", " ++ argument_text argument)) }
 {
     text.push_str(", ")?;
     push_argument(text, argument)
 }
 
-#[tactic(auto, unfolding(crate::specs::Replaying::argument_text))]
-fn push_argument(text: &mut String, argument: u64) -> Result<(), AllocError>
+fn push_argument(text: &mut String, argument: Value) -> Result<(), AllocError>
     ensures text { OnOk result (string_bytes text.new ≡ string_bytes text.old ++ argument_text argument) }
 {
-    if argument == 0 {
+    match argument {
+        Value::Told(number) => push_number(text, number),
+        Value::Unknown => text.push_str("?"),
+    }
+}
+
+#[tactic(auto, unfolding(crate::specs::Replaying::number_text))]
+fn push_number(text: &mut String, number: u64) -> Result<(), AllocError>
+    ensures text { OnOk result (string_bytes text.new ≡ string_bytes text.old ++ number_text number) }
+{
+    if number == 0 {
         text.push_str("0")
     } else {
-        write!(text, "0x{argument:x}")
+        write!(text, "0x{number:x}")
     }
 }
 
