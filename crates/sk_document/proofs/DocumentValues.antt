@@ -17,7 +17,11 @@ use Rattle.sk_survey.specs.declared.told.Told.{Told}
 use Rattle.sk_survey.specs.Told.{warns}
 use Rattle.sk_show.specs.declared.example.Example.{Example}
 use Rattle.sk_replay.specs.declared.call.Call.{Call}
+use Rattle.sk_replay.specs.declared.judged.Judged.{Judged}
+use Rattle.sk_replay.specs.declared.judged.Judged.TheVariants as judged_variants
 use Rattle.sk_replay.specs.declared.row.Row.{Row}
+use Rattle.sk_replay.specs.declared.value.Value.{Value}
+use Rattle.sk_replay.specs.declared.value.Value.TheVariants as value_variants
 use Rattle.sk_show.specs.declared.tracing.Registers.{Registers}
 use Rattle.sk_show.specs.declared.tracing.Step.{Step}
 use Rattle.sk_show.specs.declared.survey_line.Line as survey
@@ -47,8 +51,10 @@ use Rattle.sk_document.specs.CallsDocument.{answers_at, calls_row, calls_tokens,
 use Rattle.sk_document.specs.ComparisonDocument.{comparison_part, comparison_piece, comparison_pieces, comparison_tokens, kind_at, relation_at}
 use Rattle.sk_document.specs.LintDocument.{concern_at, lint_numbers, lint_part, lint_piece, lint_pieces, lint_tokens, named_part, remark_at, taken, taken_at}
 use Rattle.sk_document.specs.WhenDocument.{lines_at, otherwise_at, rows_at as when_rows_at, when_line, when_row, when_tokens}
-use Rattle.sk_document.specs.ReplayDocument.{judged_at, lines_at as counts_at, made, replay_row, replay_rows_at, replay_tokens, shown_args_at, strace_at}
-use Rattle.sk_document.specs.WhyDocument.{asked_at, end_at, filter_path, filter_paths, filters_at, found_in, held_at, insn_at, next_at, path_step, steps_at, why_tokens}
+use Rattle.sk_document.specs.ReplayDocument.{judged_at, lines_at as counts_at, made, replay_row, replay_rows_at, replay_tokens, shown_args_at, strace_at, told_verdict, undecided_at, undecided_said, value_said, verdict_at}
+use Rattle.sk_document.specs.declared.deciding.Decider.{Decider}
+use Rattle.sk_document.specs.Deciding.{decision, decision_of, decisions_at, entry_of, line_of, where_at}
+use Rattle.sk_document.specs.WhyDocument.{asked_at, end_at, filter_path, filter_paths, filters_at, found_in, held_at, insn_at, next_at, outcome_at, path_step, steps_at, why_tokens}
 use Rattle.sk_document.specs.DocumentLaws.{DocumentsAreValues, IsValue}
 use Rattle.sk_document.proofs.Values.{AreMembers, AreValues, array_is, array_of, boolean_member, counted_is, each_is, maybe_is, member_before, more_members, more_values, no_values, none_is, number_member, object_is, one_member, one_value, said_is, string_member, word_member}
 
@@ -348,17 +354,38 @@ arches_are it =
 
 -- ---- replay
 
+value_said_is : (it : Value) → IsValue (value_said it)
+value_said_is (value_variants.Told number) = said_is _
+value_said_is value_variants.Unknown = none_is
+
+told_verdict_is : (it : Judged) → IsValue (told_verdict it)
+told_verdict_is (judged_variants.Verdict value) = verdict_is value
+told_verdict_is (judged_variants.Undecided i) = none_is
+
+undecided_is : (it : Judged) → IsValue (undecided_said it)
+unfolding undecided_said
+undecided_is (judged_variants.Verdict value) = none_is
+undecided_is (judged_variants.Undecided i) = said_is _
+
 shown_args_member : (it : Call) → AreMembers (shown_args_at it)
 unfolding shown_args_at
-shown_args_member it = one_member _ _ (array_of hexadecimal_said (λ n. said_is _) (take it.shown it.args))
+shown_args_member it = one_member _ _ (array_of value_said value_said_is (take it.shown it.args))
 
 made_members : (by : Architecture) (it : Call) → AreMembers (made by it)
 unfolding made
 made_members by it = more_members _ _ (number_member _ _) (more_members _ _ (name_member _) (shown_args_member it))
 
+told_member : (it : Judged) → AreMembers (verdict_at it)
+unfolding verdict_at
+told_member it = one_member _ _ (told_verdict_is it)
+
+undecided_member : (it : Judged) → AreMembers (undecided_at it)
+unfolding undecided_at
+undecided_member it = one_member _ _ (undecided_is it)
+
 judged_members : (it : Row) → AreMembers (judged_at it)
 unfolding judged_at
-judged_members it = more_members _ _ (boolean_member _ _) (one_member _ _ (verdict_is it.value))
+judged_members it = more_members _ _ (boolean_member _ _) (more_members _ _ (told_member it.judged) (undecided_member it.judged))
 
 strace_member : (by : Architecture) (it : Call) → AreMembers (strace_at by it)
 unfolding strace_at
@@ -436,11 +463,30 @@ asked_member : (by : Architecture) (it : Record) → AreMembers (asked_at by it)
 unfolding asked_at
 asked_member by it = one_member _ _ (call_is _ it)
 
-why_are : (by : Architecture) (programs : List (List Insn)) (call : Record) (source : Option (ℕ × ℕ)) → IsValue (why_tokens by programs call source)
+where_members : (decider : Decider) → AreMembers (where_at decider)
+unfolding where_at
+where_members decider =
+    member_before _ _ _ (maybe_is counted counted_is (entry_of decider)) (one_member _ _ (maybe_is counted counted_is (line_of decider)))
+
+decision_is : (file : List ℕ) (decider : Decider) → IsValue (decision file decider)
+unfolding decision
+decision_is file decider =
+    object_is _ (more_members _ _ (string_member _ _) (more_members _ _ (string_member _ _) (more_members _ _ (string_member _ _) (where_members decider))))
+
+decisions_member : (decisions : List (List ℕ × Decider)) → AreMembers (decisions_at decisions)
+unfolding decisions_at
+decisions_member decisions = one_member _ _ (array_of decision_of (λ it. decision_is it.0 it.1) decisions)
+
+outcome_members : (value : ℕ) (source : Option (ℕ × ℕ)) (decisions : List (List ℕ × Decider)) → AreMembers (outcome_at value source decisions)
+unfolding outcome_at
+outcome_members value source decisions = more_members _ _ (end_members value source) (decisions_member decisions)
+
+why_are : (by : Architecture) (programs : List (List Insn)) (call : Record) (source : Option (ℕ × ℕ)) (decisions : List (List ℕ × Decider))
+    → IsValue (why_tokens by programs call source decisions)
 unfolding why_tokens
-why_are by programs call source =
+why_are by programs call source decisions =
     object_is _ (more_members _ _ (word_member _) (more_members _ _ (architecture_member by)
-    (more_members _ _ (asked_member by call) (more_members _ _ (filters_member programs call) (end_members _ source)))))
+    (more_members _ _ (asked_member by call) (more_members _ _ (filters_member programs call) (outcome_members _ source decisions)))))
 
 -- ---- all of them
 

@@ -4,3 +4,5 @@ pub mod WorkedReplays
 pub mod WorkedWhys
 pub mod Values
 pub mod DocumentValues
+pub mod PlainTexts
+pub mod WorkedPages

@@ -15,6 +15,7 @@ use Rattle.sk_when.specs.declared.diff_engine.Finding.{Finding}
 use Rattle.sk_when.specs.declared.names.Names.{Names}
 use Rattle.sk_when.specs.declared.piece.Piece.{Piece}
 use Rattle.sk_when.specs.declared.row.ConditionalRow.{ConditionalRow}
+use Rattle.sk_document.specs.declared.deciding.Decider.{Decider}
 use Rattle.sk_document.specs.ArchesDocument.{arches_tokens}
 use Rattle.sk_document.specs.CallsDocument.{calls_tokens}
 use Rattle.sk_document.specs.ComparisonDocument.{comparison_tokens}
@@ -40,5 +41,5 @@ pub record DocumentsAreValues : Type 0 where
   pub arches : (told : Told) → IsValue (arches_tokens told)
   pub replay : (architecture : Architecture) (rows : List Row) (events unclear : ℕ) → IsValue (replay_tokens architecture rows events unclear)
   pub why :
-      (architecture : Architecture) (programs : List (List Insn)) (call : Record) (source : Option (ℕ × ℕ))
-      → IsValue (why_tokens architecture programs call source)
+      (architecture : Architecture) (programs : List (List Insn)) (call : Record) (source : Option (ℕ × ℕ)) (decisions : List (List ℕ × Decider))
+      → IsValue (why_tokens architecture programs call source decisions)

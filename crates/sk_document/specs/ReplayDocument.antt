@@ -1,27 +1,53 @@
 -- What `ask replay` tells, as a document.
 use Rattle.std.specs.Prelude.{ℕ, ◌++◌, List, codes, flat_map, take}
+use Rattle.std.specs.Fmt.{decimal}
 use Rattle.json.specs.Token.{Token}
 use Rattle.sk_names.specs.declared.architecture.Architecture.{Architecture}
 use Rattle.sk_names.specs.Names.{name_on}
 use Rattle.sk_replay.specs.declared.call.Call.{Call}
+use Rattle.sk_replay.specs.declared.judged.Judged.{Judged}
+use Rattle.sk_replay.specs.declared.judged.Judged.TheVariants.{Verdict, Undecided}
 use Rattle.sk_replay.specs.declared.row.Row.{Row}
+use Rattle.sk_replay.specs.declared.value.Value.{Value}
+use Rattle.sk_replay.specs.declared.value.Value.TheVariants.{Told, Unknown}
 use Rattle.sk_replay.specs.Replaying.{call_text, is_performed, tally_denies}
-use Rattle.sk_document.specs.Documents.{array, at, boolean_at, document, number_at, object, string_at, word_at}
+use Rattle.sk_document.specs.Documents.{array, at, boolean_at, document, none, number_at, object, said, string_at, word_at}
 use Rattle.sk_document.specs.Verdicts.{verdict}
 use Rattle.sk_document.specs.Numbers.{architecture_at, name_at}
 use Rattle.sk_document.specs.Calls.{hexadecimal_said}
 
+-- an argument: `null` where the log shows no number
+abbrev pub value_said : Value → List Token
+value_said (Told number) = hexadecimal_said number
+value_said Unknown = none
+
 -- the arguments that the log shows
 unfoldable pub shown_args_at : Call → List Token
-shown_args_at it = at (codes "args") ++ array (flat_map hexadecimal_said (take it.shown it.args))
+shown_args_at it = at (codes "args") ++ array (flat_map value_said (take it.shown it.args))
 
 -- a call by its number, and its name on an architecture
 unfoldable pub made : Architecture → Call → List Token
 made by it = number_at (codes "number") it.nr ++ (name_at (name_on by it.nr) ++ shown_args_at it)
 
+-- the verdict that is told
+abbrev pub told_verdict : Judged → List Token
+told_verdict (Verdict value) = verdict value
+told_verdict (Undecided i) = none
+
+-- the argument that it depends on, where it is not
+unfoldable pub undecided_said : Judged → List Token
+undecided_said (Verdict value) = none
+undecided_said (Undecided i) = said (codes "args[" ++ (decimal i ++ codes "]"))
+
+unfoldable pub verdict_at : Judged → List Token
+verdict_at it = at (codes "verdict") ++ told_verdict it
+
+unfoldable pub undecided_at : Judged → List Token
+undecided_at it = at (codes "undecided_by") ++ undecided_said it
+
 -- the verdict on a call, and whether that is performed
 unfoldable pub judged_at : Row → List Token
-judged_at it = boolean_at (codes "performed") (is_performed it) ++ (at (codes "verdict") ++ verdict it.value)
+judged_at it = boolean_at (codes "performed") (is_performed it) ++ (verdict_at it.judged ++ undecided_at it.judged)
 
 -- a call as strace(1) writes it
 unfoldable pub strace_at : Architecture → Call → List Token

@@ -64,7 +64,7 @@ fn add_answered(to: &mut Document, it: &Answered) -> Result<(), AllocError>
 }
 
 // The one value that may be answered, if it is one.
-fn only_value(answers: &Answers) -> Option<u32>
+pub(crate) fn only_value(answers: &Answers) -> Option<u32>
     ensures value { result ≡ only_value (answers_of answers.now) }
 {
     match answers {

@@ -43,8 +43,7 @@ fn add_arguments(to: &mut Document, it: Record) -> Result<(), AllocError>
     to.end_array()
 }
 
-/// Adds numbers in their order.
-pub fn add_hexadecimals(to: &mut Document, numbers: &[u64]) -> Result<(), AllocError>
+fn add_hexadecimals(to: &mut Document, numbers: &[u64]) -> Result<(), AllocError>
     ensures added { OnOk result (to.new ≡ to.old ++ flat_map hexadecimal_said numbers.now) }
 {
     for number in numbers {
@@ -53,7 +52,8 @@ pub fn add_hexadecimals(to: &mut Document, numbers: &[u64]) -> Result<(), AllocE
     Ok(())
 }
 
-fn add_hexadecimal(to: &mut Document, number: u64) -> Result<(), AllocError>
+/// Adds a number as C reads it in hexadecimal.
+pub fn add_hexadecimal(to: &mut Document, number: u64) -> Result<(), AllocError>
     ensures added { OnOk result (to.new ≡ to.old ++ hexadecimal_said number) }
 {
     let mut text = to.text();

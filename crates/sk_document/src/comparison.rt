@@ -142,7 +142,7 @@ fn add_kind(to: &mut Document, kind: Kind) -> Result<(), AllocError>
     to.string_at("kind", kind_word(kind))
 }
 
-fn kind_word(kind: Kind) -> &'static str
+pub(crate) fn kind_word(kind: Kind) -> &'static str
     ensures word { result.now ≡ kind_word kind }
 {
     match kind {

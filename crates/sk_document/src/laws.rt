@@ -1,6 +1,8 @@
-//! Worked documents. No program calls these functions: the contract of each is the law.
+//! Worked documents and pages. No program calls these functions: the contract of each is the law.
 ghost use Rattle.sk_document.specs.DocumentLaws.{DocumentsAreValues};
 ghost use Rattle.sk_document.specs.WorkedDocuments.{ArchesDocumentWorks, CallsDocumentWorks, ComparisonDocumentWorks, LintDocumentWorks, WhenDocumentWorks};
+ghost use Rattle.sk_document.specs.PageLaws.{ShownTextsArePlain};
+ghost use Rattle.sk_document.specs.WorkedPages.{ActionsWork, ChangesWork, GroupsWork, RowsWork, TextsWork};
 ghost use Rattle.sk_document.specs.WorkedReplays.{ReplayDocumentWorks};
 ghost use Rattle.sk_document.specs.WorkedValues.{CallsWork, NumbersWork, TermsWork, VerdictsWork};
 ghost use Rattle.sk_document.specs.WorkedWhys.{WhyDocumentWorks};
@@ -37,4 +39,19 @@ pub fn worked_why()
 /// Each document is one value of JSON.
 pub fn documents_are_values()
     ensures law { DocumentsAreValues }
+{}
+
+/// Parts of pages, worked out by hand.
+pub fn worked_pages()
+    ensures texts { TextsWork }
+    ensures actions { ActionsWork }
+    ensures groups { GroupsWork }
+    ensures rows { RowsWork }
+    ensures changes { ChangesWork }
+{}
+
+/// Nothing that a file says in a page is markup.
+#[tactic(auto, using(crate::proofs::PlainTexts::plain_text))]
+pub fn shown_texts_are_plain()
+    ensures law { ShownTextsArePlain }
 {}

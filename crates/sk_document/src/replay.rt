@@ -1,14 +1,17 @@
 //! What `ask replay` tells, as a document.
-ghost use Rattle.std.specs.Prelude.{◌≡◌, ◌++◌, flat_map, IfOk, OnOk};
-ghost use Rattle.sk_document.specs.ReplayDocument.{judged_at, lines_at, made, replay_document, replay_row, replay_rows_at, replay_tokens, shown_args_at, strace_at};
+ghost use Rattle.std.specs.Prelude.{◌≡◌, ◌++◌, codes, flat_map, IfOk, OnOk};
+ghost use Rattle.std.specs.Fmt.{decimal};
+ghost use Rattle.sk_document.specs.Documents.{said};
+ghost use Rattle.sk_document.specs.ReplayDocument.{judged_at, lines_at, made, replay_document, replay_row, replay_rows_at, replay_tokens, shown_args_at, strace_at, told_verdict, undecided_at, undecided_said, value_said, verdict_at};
 
-use crate::call::add_hexadecimals;
+use crate::call::add_hexadecimal;
 use crate::document::Document;
 use crate::numbers::{add_architecture, add_name};
 use crate::verdict::add_verdict;
 use sk_names::{Architecture, name};
-use sk_replay::{Call, Replay, Row, push_call};
+use sk_replay::{Call, Judged, Replay, Row, Value, push_call};
 use std::alloc::{AllocError, Global};
+use std::fmt::Write;
 
 /// The verdicts on the calls of a log, which a process of an architecture made.
 pub fn replay_document(
@@ -100,8 +103,26 @@ fn add_shown_args_at(to: &mut Document, call: Call) -> Result<(), AllocError>
 {
     to.at("args")?;
     to.begin_array()?;
-    add_hexadecimals(to, call.shown_args())?;
+    add_values(to, call.shown_args())?;
     to.end_array()
+}
+
+fn add_values(to: &mut Document, args: &[Value]) -> Result<(), AllocError>
+    ensures added { OnOk result (to.new ≡ to.old ++ flat_map value_said args.now) }
+{
+    for value in args {
+        add_value(to, *value)?;
+    }
+    Ok(())
+}
+
+fn add_value(to: &mut Document, value: Value) -> Result<(), AllocError>
+    ensures added { OnOk result (to.new ≡ to.old ++ value_said value) }
+{
+    match value {
+        Value::Told(number) => add_hexadecimal(to, number),
+        Value::Unknown => to.null(),
+    }
 }
 
 #[tactic(auto, unfolding(crate::specs::ReplayDocument::judged_at))]
@@ -109,8 +130,51 @@ fn add_judged_at(to: &mut Document, row: &Row) -> Result<(), AllocError>
     ensures added { OnOk result (to.new ≡ to.old ++ judged_at row.now) }
 {
     to.boolean_at("performed", row.is_performed())?;
+    add_verdict_at(to, row.judged)?;
+    add_undecided_at(to, row.judged)
+}
+
+#[tactic(auto, unfolding(crate::specs::ReplayDocument::verdict_at))]
+fn add_verdict_at(to: &mut Document, judged: Judged) -> Result<(), AllocError>
+    ensures added { OnOk result (to.new ≡ to.old ++ verdict_at judged) }
+{
     to.at("verdict")?;
-    add_verdict(to, row.value)
+    add_told(to, judged)
+}
+
+#[tactic(auto, unfolding(crate::specs::ReplayDocument::undecided_at))]
+fn add_undecided_at(to: &mut Document, judged: Judged) -> Result<(), AllocError>
+    ensures added { OnOk result (to.new ≡ to.old ++ undecided_at judged) }
+{
+    to.at("undecided_by")?;
+    add_undecided(to, judged)
+}
+
+fn add_told(to: &mut Document, judged: Judged) -> Result<(), AllocError>
+    ensures added { OnOk result (to.new ≡ to.old ++ told_verdict judged) }
+{
+    match judged {
+        Judged::Verdict(value) => add_verdict(to, value),
+        Judged::Undecided(_) => to.null(),
+    }
+}
+
+#[tactic(auto, unfolding(crate::specs::ReplayDocument::undecided_said))]
+fn add_undecided(to: &mut Document, judged: Judged) -> Result<(), AllocError>
+    ensures added { OnOk result (to.new ≡ to.old ++ undecided_said judged) }
+{
+    match judged {
+        Judged::Verdict(_) => to.null(),
+        Judged::Undecided(argument) => add_argument(to, argument),
+    }
+}
+
+fn add_argument(to: &mut Document, argument: usize) -> Result<(), AllocError>
+    ensures added { OnOk result (to.new ≡ to.old ++ said (codes "args[" ++ (decimal argument ++ codes "]"))) }
+{
+    let mut text = to.text();
+    write!(text, "args[{argument}]")?;
+    to.string(text.as_str())
 }
 
 #[tactic(auto, unfolding(crate::specs::ReplayDocument::strace_at))]

@@ -1,10 +1,12 @@
 //! What `ask why` tells, as a document.
-ghost use Rattle.std.specs.Prelude.{◌≡◌, ◌++◌, flat_map, IfOk, OnOk};
+ghost use Rattle.std.specs.Prelude.{◌≡◌, ◌++◌, flat_map, map, IfOk, OnOk};
 ghost use Rattle.sk_show.specs.PathText.{IsSource};
+ghost use Rattle.sk_document.specs.Deciding.{pair_of};
 ghost use Rattle.sk_document.specs.Documents.{counted, maybe};
-ghost use Rattle.sk_document.specs.WhyDocument.{IsWhyDocument, asked_at, end_at, filter_path, filter_paths, filters_at, found_in, held_at, insn_at, next_at, path_step, steps_at, why_tokens};
+ghost use Rattle.sk_document.specs.WhyDocument.{IsWhyDocument, asked_at, end_at, filter_path, filter_paths, filters_at, found_in, held_at, insn_at, next_at, outcome_at, path_step, steps_at, why_tokens};
 
 use crate::call::add_call;
+use crate::deciding::{Decision, add_decisions_at};
 use crate::document::Document;
 use crate::numbers::add_architecture;
 use crate::verdict::add_verdict;
@@ -17,18 +19,27 @@ use sk_show::{Registers, Step, answering, trace};
 use sk_when::Names;
 use std::alloc::{AllocError, Global};
 
-/// Why a call of an architecture gets its verdict of a chain.
+/// Why a call of an architecture gets its verdict of a chain, and what decides on it in the texts that filters were made of.
 pub fn why_document(
     alloc: Global,
     architecture: Architecture,
     chain: &Chain,
     call: &Record,
+    decisions: &[Decision<'_>],
 ) -> Result<Vec<u8>, AllocError>
-    ensures told { IfOk result (λ text. IsWhyDocument architecture chain.now call.now text.items) }
+    ensures told { IfOk result (λ text. IsWhyDocument architecture chain.now call.now (map pair_of decisions.now) text.items) }
 {
     let mut document = Document::new(alloc);
     let source = source(chain, call, chain.verdict(call));
-    add_why(alloc, &mut document, architecture, chain, call, source)?;
+    add_why(
+        alloc,
+        &mut document,
+        architecture,
+        chain,
+        call,
+        source,
+        decisions,
+    )?;
     document.finished()
 }
 
@@ -46,16 +57,30 @@ fn add_why(
     chain: &Chain,
     call: &Record,
     source: Option<(usize, usize)>,
+    decisions: &[Decision<'_>],
 ) -> Result<(), AllocError>
-    ensures added { OnOk result (to.new ≡ to.old ++ why_tokens architecture chain.now call.now source) }
+    ensures added { OnOk result (to.new ≡ to.old ++ why_tokens architecture chain.now call.now source (map pair_of decisions.now)) }
 {
     to.begin_object()?;
     to.word_at("why")?;
     add_architecture(to, architecture)?;
     add_asked_at(to, architecture, *call)?;
     add_filters_at(alloc, to, chain, call)?;
-    add_end_at(to, chain.verdict(call), source)?;
+    add_outcome_at(to, chain.verdict(call), source, decisions)?;
     to.end_object()
+}
+
+#[tactic(auto, unfolding(crate::specs::WhyDocument::outcome_at))]
+fn add_outcome_at(
+    to: &mut Document,
+    verdict: u32,
+    source: Option<(usize, usize)>,
+    decisions: &[Decision<'_>],
+) -> Result<(), AllocError>
+    ensures added { OnOk result (to.new ≡ to.old ++ outcome_at verdict source (map pair_of decisions.now)) }
+{
+    add_end_at(to, verdict, source)?;
+    add_decisions_at(to, decisions)
 }
 
 #[tactic(auto, unfolding(crate::specs::WhyDocument::asked_at))]
