@@ -18,3 +18,5 @@ pub mod Commas
 pub mod Told
 pub mod Unchecked
 pub mod Two
+pub mod Decided
+pub mod Logs

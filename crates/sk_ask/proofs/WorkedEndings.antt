@@ -27,6 +27,7 @@ worked_nearest = record {
   first = refl;
   far = refl;
   said = refl;
+  said_elsewhere = refl;
 }
 
 pub worked_expects : ExpectsWork

@@ -1,16 +1,17 @@
 -- What the program answers to its words, and what each of them tells of filters.
-use Rattle.std.specs.Prelude.{ℕ, ◌++◌, take, drop, Bool, false, List, [], ◌∷◌, codes, map, Option, Some, None, Result, Ok, Err}
+use Rattle.std.specs.Prelude.{ℕ, ◌++◌, take, drop, Bool, true, false, List, [], ◌∷◌, codes, map, Option, Some, None, Result, Ok, Err}
 use Rattle.std.specs.Bool.{MatchBool}
 use Rattle.sk_names.specs.declared.architecture.Architecture.{Architecture}
 use Rattle.sk_arguments.specs.declared.naming.Naming.{Naming}
 use Rattle.sk_profile_json.specs.declared.context.Context.{Context}
 use Rattle.sk_ask.specs.declared.word.TheConstants.{NAMES}
-use Rattle.sk_ask.specs.Nearest.{of_unknown}
+use Rattle.sk_ask.specs.Nearest.{of_unknown, see_help}
 use Rattle.sk_ask.specs.Shelves.{Held}
 use Rattle.sk_ask.specs.declared.printing.Printing.{Printing}
 use Rattle.sk_ask.specs.declared.word.Word.{Word}
-use Rattle.sk_ask.specs.declared.word.Word.TheVariants.{Calls, Filter, When, Diff, Expect, Lint, Replay, Why, Show, Arches, Check}
+use Rattle.sk_ask.specs.declared.word.Word.TheVariants.{Calls, Filter, When, Diff, Expect, Lint, Replay, Allow, Why, Show, Arches, Check, Page}
 use Rattle.sk_ask.specs.Asking.{Question, asked_of, asks_help, asks_version, manner_of, naming_asked, nothing_asked, printing_asked, word_named}
+use Rattle.sk_ask.specs.Allows.{OfLogs, allowed}
 use Rattle.sk_ask.specs.Arches.{TellsArches}
 use Rattle.sk_ask.specs.Architectures.{architecture_of}
 use Rattle.sk_ask.specs.Calls.{OfCalls}
@@ -22,6 +23,7 @@ use Rattle.sk_ask.specs.Diffs.{IsDiff}
 use Rattle.sk_ask.specs.Expects.{OfDemands, IsExpectOf}
 use Rattle.sk_ask.specs.Helping.{help_text, version_text, word_help_text}
 use Rattle.sk_ask.specs.Lints.{TellsLint}
+use Rattle.sk_ask.specs.Pages.{TellsPage}
 use Rattle.sk_ask.specs.Replays.{OfLog, replayed}
 use Rattle.sk_ask.specs.Shows.{Shows}
 use Rattle.sk_ask.specs.Smaller.{TellsFilter}
@@ -52,12 +54,18 @@ AnswersQuestion held may_spend asked context over by calls naming printing (Lint
 AnswersQuestion held may_spend asked context over by calls naming printing Replay names ending =
     OfFirst names ending (λ name others. OfLog held name ending (λ log.
     over others ending (λ read. ComesTo (replayed printing by name log read.chain read.notes) ending)))
+AnswersQuestion held may_spend asked context over by calls naming printing Allow names ending = OfLogs held names ending (λ logs. ComesTo (allowed by names logs) ending)
 AnswersQuestion held may_spend asked context over by calls naming printing Why names ending =
     OfFirst names ending (λ word others. OfMeant by word others ending (λ meant.
-    over others ending (λ read. TellsWhyOf printing by meant read.chain read.notes ending)))
+    over others ending (λ read. TellsWhyOf printing by meant context others read ending)))
 AnswersQuestion held may_spend asked context over by calls naming printing Show names ending = over names ending (λ read. Shows by read.chain read.notes ending)
 AnswersQuestion held may_spend asked context over by calls naming printing Arches names ending = over names ending (λ read. TellsArches printing read.chain read.notes ending)
 AnswersQuestion held may_spend asked context over by calls naming printing Check names ending = Checks (manner_of asked) held context names ending
+AnswersQuestion held may_spend asked context over by calls naming printing (Page false) names ending =
+    over names ending (λ read. TellsPage may_spend naming context [] None [] names read ending)
+AnswersQuestion held may_spend asked context over by calls naming printing (Page true) names ending =
+    over (take 1 names) ending (λ old.
+    over (drop 1 names) ending (λ new. TellsPage may_spend naming context (take 1 names) (Some old.chain) old.notes (drop 1 names) new ending))
 
 -- ---- all words
 
@@ -77,7 +85,7 @@ AnswersAsked held may_spend (Ok asked) ending =
 
 abbrev pub AnswersWord : (List ℕ → Held) → (ℕ → Bool) → List ℕ → Option Word → List (List ℕ) → Ending → Type 0
 AnswersWord held may_spend first None words ending =
-    ComesTo (refused (of_unknown (codes "no word is named ") first first (map (λ name. name.now) NAMES))) ending
+    ComesTo (refused (of_unknown (codes "no word is named ") first first (map (λ name. name.now) NAMES) see_help)) ending
 AnswersWord held may_spend first (Some word) words ending = AnswersAsked held may_spend (asked_of (nothing_asked word) words) ending
 
 abbrev pub AnswersWords : (List ℕ → Held) → (ℕ → Bool) → List (List ℕ) → Ending → Type 0

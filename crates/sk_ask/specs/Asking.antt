@@ -13,7 +13,7 @@ use Rattle.sk_profile_json.specs.Capabilities.{capability}
 use Rattle.sk_profile_json.specs.Machines.{machine_named}
 use Rattle.sk_ask.specs.Complaints.{of_word}
 use Rattle.sk_ask.specs.Only.{sought_named}
-use Rattle.sk_ask.specs.Nearest.{architecture_names, capability_names, machine_names, of_unknown}
+use Rattle.sk_ask.specs.Nearest.{architecture_names, capability_names, machine_names, of_unknown, see_capabilities, see_help}
 use Rattle.sk_ask.specs.OtherNames.{architecture_meant, kernel_meant}
 use Rattle.sk_ask.specs.Targets.{target_named}
 use Rattle.sk_ask.specs.declared.word.Valued.{Valued}
@@ -23,10 +23,10 @@ use Rattle.sk_ask.specs.declared.printing.Printing.TheVariants.{Text, Document}
 use Rattle.sk_ask.specs.declared.only.Sought.{Sought}
 use Rattle.sk_ask.specs.declared.target.Target.{Target}
 use Rattle.sk_ask.specs.declared.target.Target.TheVariants.{Lines, Raw}
-use Rattle.sk_ask.specs.declared.word.Valued.TheVariants.{Call, Only, Cap, Kernel, Machine, Arch, To}
+use Rattle.sk_ask.specs.declared.word.Valued.TheVariants.{Call, Only, Cap, Kernel, Machine, Arch, To, Old}
 use Rattle.sk_ask.specs.declared.word.TheConstants.{OPTIONS}
 use Rattle.sk_ask.specs.declared.word.Word.{Word}
-use Rattle.sk_ask.specs.declared.word.Word.TheVariants.{Calls, Filter, When, Diff, Expect, Lint, Replay, Why, Show, Arches, Check}
+use Rattle.sk_ask.specs.declared.word.Word.TheVariants.{Calls, Filter, When, Diff, Expect, Lint, Replay, Allow, Why, Show, Arches, Check, Page}
 
 -- the word, with the options that it alone has; the words behind each `--call`, the verdicts behind each `--only`, the capabilities
 -- behind each `--cap`, the version behind `--kernel`, the machine behind `--machine`, and the architecture behind `--arch`; the option
@@ -76,10 +76,12 @@ word_name (Diff stricter) = codes "diff"
 word_name Expect = codes "expect"
 word_name (Lint all) = codes "lint"
 word_name Replay = codes "replay"
+word_name Allow = codes "allow"
 word_name Why = codes "why"
 word_name Show = codes "show"
 word_name Arches = codes "arches"
 word_name Check = codes "check"
+word_name (Page is) = codes "page"
 
 abbrev pub word_named : List ℕ → Option Word
 word_named name =
@@ -90,10 +92,12 @@ word_named name =
     else if bytes_eq name (codes "expect") then Some Expect
     else if bytes_eq name (codes "lint") then Some (Lint false)
     else if bytes_eq name (codes "replay") then Some Replay
+    else if bytes_eq name (codes "allow") then Some Allow
     else if bytes_eq name (codes "why") then Some Why
     else if bytes_eq name (codes "show") then Some Show
     else if bytes_eq name (codes "arches") then Some Arches
     else if bytes_eq name (codes "check") then Some Check
+    else if bytes_eq name (codes "page") then Some (Page false)
     else None
 
 -- what asks how words are used: `--help` by the GNU coding standards, "Command-Line Interfaces", and `-h`
@@ -120,6 +124,7 @@ valued_name Kernel = codes "--kernel"
 valued_name Machine = codes "--machine"
 valued_name Arch = codes "--arch"
 valued_name To = codes "--to"
+valued_name Old = codes "--old"
 
 -- what is expected behind one
 abbrev pub value_kind : Valued → List ℕ
@@ -130,6 +135,7 @@ value_kind Kernel = codes "a version as 6.1"
 value_kind Machine = codes "a name"
 value_kind Arch = codes "a name"
 value_kind To = codes "raw, hex, lines, c, base64, bpf_asm or json"
+value_kind Old = codes "a FILE"
 
 -- each call is told of by these
 abbrev pub tells_calls : Word → Bool
@@ -137,18 +143,34 @@ tells_calls (Calls examples) = true
 tells_calls (When dot) = true
 tells_calls word = false
 
--- the calls of an architecture that is named are told of by all words but three: `filter` tells of none, `arches` of all, and `lint` of
--- those of x86-64
+-- the calls of an architecture that is named are told of by all words but four: `filter` tells of none, `arches` of all, and `lint` and
+-- `page` of those of x86-64
 abbrev pub tells_of_one : Word → Bool
 tells_of_one (Filter target smaller) = false
 tells_of_one (Lint all) = false
 tells_of_one Arches = false
+tells_of_one (Page is) = false
 tells_of_one word = true
 
 -- filters are written by this
 abbrev pub writes_filters : Word → Bool
 writes_filters (Filter target smaller) = true
 writes_filters word = false
+
+-- an old filter may stand before the file of this one
+abbrev pub may_compare : Word → Bool
+may_compare (Page is) = true
+may_compare word = false
+
+-- one does
+abbrev pub compares : Word → Bool
+compares (Page is) = is
+compares word = false
+
+-- the same word with one
+abbrev pub with_old : Word → Word
+with_old (Page is) = Page true
+with_old word = word
 
 -- the one that is named, of a word: where there may be a profile, it may be said where that is to hold
 abbrev pub valued_named : Word → List ℕ → Option Valued
@@ -160,9 +182,10 @@ valued_named word text =
     else if bytes_eq text (codes "--machine") then Some Machine
     else if tells_of_one word && bytes_eq text (codes "--arch") then Some Arch
     else if writes_filters word && bytes_eq text (codes "--to") then Some To
+    else if may_compare word && bytes_eq text (codes "--old") then Some Old
     else None
 
--- there may be several calls, verdicts and capabilities, and the last form is the one that is wanted
+-- there may be several calls, verdicts and capabilities, the last form is the one that is wanted, and there is one old filter
 abbrev pub is_given : Valued → Question → Bool
 is_given Call asked = false
 is_given Only asked = false
@@ -171,6 +194,7 @@ is_given Kernel asked = is_some asked.kernel
 is_given Machine asked = is_some asked.machine
 is_given Arch asked = is_some asked.arch
 is_given To asked = false
+is_given Old asked = compares asked.word
 
 abbrev pub with_valued : Valued → Question → Result Question (List ℕ)
 with_valued option asked =
@@ -185,7 +209,7 @@ expected_line word option =
 -- what is said of a word that names no capability; these are named in upper case
 abbrev pub no_capability_line : Word → List ℕ → List ℕ
 no_capability_line word text =
-    of_unknown (word_name word ++ codes ": no capability is named ") text (map to_ascii_uppercase text) capability_names
+    of_unknown (word_name word ++ codes ": no capability is named ") text (map to_ascii_uppercase text) capability_names see_capabilities
 
 abbrev pub with_caps : Question → List ℕ → Option (List (List ℕ)) → Result Question (List ℕ)
 with_caps asked text None = Err (no_capability_line asked.word text)
@@ -226,7 +250,7 @@ turned_line word what = of_word (word_name word ++ codes ": arguments with their
 abbrev pub no_machine_line : Word → List ℕ → List ℕ
 no_machine_line word text =
     if is_turned (architecture_named text) then turned_line word (codes "--machine s390x")
-    else of_unknown (word_name word ++ codes ": no machine is named ") text text machine_names
+    else of_unknown (word_name word ++ codes ": no machine is named ") text text machine_names see_help
 
 abbrev pub with_machine : Question → List ℕ → Option Host → Result Question (List ℕ)
 with_machine asked text None = Err (no_machine_line asked.word text)
@@ -234,7 +258,7 @@ with_machine asked text (Some machine) = Ok (record asked { machine = Some machi
 
 abbrev pub with_architecture : Question → List ℕ → Option Architecture → Result Question (List ℕ)
 with_architecture asked text None =
-    Err (of_unknown (word_name asked.word ++ codes ": no architecture is named ") text text architecture_names)
+    Err (of_unknown (word_name asked.word ++ codes ": no architecture is named ") text text architecture_names see_help)
 with_architecture asked text (Some by) = Ok (record asked { arch = Some by; awaits = None })
 
 abbrev pub with_target : Target → Word → Word
@@ -254,6 +278,7 @@ with_value Kernel asked text = with_kernel asked (kernel_meant text)
 with_value Machine asked text = with_machine asked text (machine_named text)
 with_value Arch asked text = with_architecture asked text (architecture_meant text)
 with_value To asked text = with_form asked (target_named text)
+with_value Old asked text = Ok (record asked { word = with_old asked.word; names = text ∷ asked.names; awaits = None })
 
 -- ---- one word more
 
@@ -283,6 +308,7 @@ tells_conditions (When dot) = true
 tells_conditions (Diff stricter) = true
 tells_conditions Expect = true
 tells_conditions (Lint all) = true
+tells_conditions (Page is) = true
 tells_conditions word = false
 
 -- what these tell can be told by one JSON document
@@ -316,7 +342,8 @@ options_meant word text = if is_of_another word text then [] else options_of wor
 
 -- an option that a word has not
 abbrev pub no_option_line : Word → List ℕ → List ℕ → List ℕ
-no_option_line word text sought = of_unknown (word_name word ++ codes ": no option is named ") text sought (options_meant word sought)
+no_option_line word text sought =
+    of_unknown (word_name word ++ codes ": no option is named ") text sought (options_meant word sought) (codes "; see ask " ++ (word_name word ++ codes " --help"))
 
 -- a word that is no option of these is the name of a file
 abbrev pub with_name : Question → List ℕ → Result Question (List ℕ)
@@ -380,7 +407,9 @@ abbrev pub wanted : Word → List (List ℕ)
 wanted (Diff stricter) = codes "OLD" ∷ codes "NEW" ∷ []
 wanted Expect = codes "POLICY" ∷ codes "FILE" ∷ []
 wanted Replay = codes "LOG" ∷ codes "FILE" ∷ []
+wanted Allow = codes "LOG" ∷ []
 wanted Why = codes "CALL" ∷ codes "FILE" ∷ []
+wanted (Page true) = codes "OLD" ∷ codes "NEW" ∷ []
 wanted word = codes "FILE" ∷ []
 
 -- the first that is wanted and has no name
@@ -394,16 +423,18 @@ none_missing asked (Some kind) = Err (of_word (word_name asked.word ++ (codes ":
 -- two chains are compared, an old one and a new one, each of a file
 abbrev pub two_named : Question → Result Question (List ℕ)
 two_named asked =
-    if length asked.names == 2 then Ok asked else Err (of_word (codes "diff: expected two FILEs, OLD and NEW") [])
+    if length asked.names == 2 then Ok asked else Err (of_word (word_name asked.word ++ codes ": expected two FILEs, OLD and NEW") [])
 
 -- as many names as the word wants
 abbrev pub named : Word → Question → Result Question (List ℕ)
 named (Diff stricter) asked = two_named asked
+named (Page true) asked = two_named asked
 named word asked = none_missing asked (missing asked)
 
 -- arguments are told of by all words but these
 abbrev pub tells_arguments : Word → Bool
 tells_arguments (Calls examples) = examples
+tells_arguments Allow = false
 tells_arguments Show = false
 tells_arguments Check = false
 tells_arguments word = true

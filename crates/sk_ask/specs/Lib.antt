@@ -1,3 +1,4 @@
+pub mod Pages
 pub mod Answering
 pub mod Arches
 pub mod Architectures
@@ -29,6 +30,7 @@ pub mod Steps
 pub mod Telling
 pub mod Troubles
 pub mod Whens
+pub mod Deciding
 pub mod Whys
 pub mod Filters
 pub mod Finding
@@ -45,3 +47,4 @@ pub mod Orders
 pub mod Reading
 pub mod Answers
 pub mod Images
+pub mod Allows

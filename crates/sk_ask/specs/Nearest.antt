@@ -9,6 +9,7 @@ use Rattle.sk_names.specs.Names.{name_on}
 use Rattle.sk_names.specs.Numbers.{numbers_on}
 use Rattle.sk_profile_json.specs.Capabilities.{capability}
 use Rattle.sk_profile_json.specs.Machines.{machines, own_of}
+use Rattle.sk_ask.specs.declared.nearest.TheConstants.{SEE_CAPABILITIES, SEE_HELP}
 use Rattle.sk_ask.specs.Complaints.{shown}
 use Rattle.sk_ask.specs.OtherNames.{bare_name}
 
@@ -46,15 +47,24 @@ capability_names = unwrap_or (capability (codes "all")) []
 abbrev pub machine_names : List (List ℕ)
 machine_names = map (λ machine. text_of (own_of machine)) machines
 
--- what is said of the name that may be meant
-abbrev pub meant_text : Option (List ℕ) → List ℕ
-meant_text None = []
-meant_text (Some name) = codes ": did you mean " ++ (name ++ codes "?")
+-- what is said of the name that may be meant, or else of where the names stand
+abbrev pub meant_text : List ℕ → Option (List ℕ) → List ℕ
+meant_text elsewhere None = elsewhere
+meant_text elsewhere (Some name) = codes ": did you mean " ++ (name ++ codes "?")
 
--- what is wrong, a word, and the name that may be meant by what is sought of it
-abbrev pub of_unknown : List ℕ → List ℕ → List ℕ → List (List ℕ) → List ℕ
-of_unknown what word sought names = codes "ask: " ++ (what ++ (shown word ++ (meant_text (nearest sought names) ++ codes "\n")))
+-- what is wrong, a word, and the name that may be meant by what is sought of it, or else where the names stand
+abbrev pub of_unknown : List ℕ → List ℕ → List ℕ → List (List ℕ) → List ℕ → List ℕ
+of_unknown what word sought names elsewhere =
+    codes "ask: " ++ (what ++ (shown word ++ (meant_text elsewhere (nearest sought names) ++ codes "\n")))
+
+-- the words, the architectures and the machines have their names there
+abbrev pub see_help : List ℕ
+see_help = SEE_HELP.now
+
+-- and the capabilities theirs
+abbrev pub see_capabilities : List ℕ
+see_capabilities = SEE_CAPABILITIES.now
 
 -- a word names no call of an architecture
 abbrev pub no_call_named : Architecture → List ℕ → List ℕ
-no_call_named by word = of_unknown (codes "no call is named ") word (bare_name word) (call_names by)
+no_call_named by word = of_unknown (codes "no call is named ") word (bare_name word) (call_names by) []

@@ -43,7 +43,12 @@ pub record NearestWorks : Type 0 where
   pub swapped : nearest (codes "opneat") (codes "open" ∷ codes "openat" ∷ codes "openat2" ∷ []) ≡ Some (codes "openat")
   pub first : nearest (codes "getuit") (codes "getgid" ∷ codes "getuid" ∷ codes "getpid" ∷ []) ≡ Some (codes "getuid")
   pub far : nearest (codes "foo") (codes "read" ∷ codes "fork" ∷ []) ≡ None
-  pub said : of_unknown (codes "no word is named ") (codes "dif") (codes "dif") (codes "diff" ∷ []) ≡ codes "ask: no word is named dif: did you mean diff?\n"
+  pub said :
+      of_unknown (codes "no word is named ") (codes "dif") (codes "dif") (codes "diff" ∷ []) (codes "; see ask --help")
+      ≡ codes "ask: no word is named dif: did you mean diff?\n"
+  pub said_elsewhere :
+      of_unknown (codes "no word is named ") (codes "help") (codes "help") (codes "diff" ∷ []) (codes "; see ask --help")
+      ≡ codes "ask: no word is named help; see ask --help\n"
 
 -- a policy that tells of aarch64's calls, and says what those of others get
 abbrev pub of_aarch64 : Demands

@@ -15,6 +15,7 @@ use crate::shelf::contents;
 use crate::smaller::counted;
 use crate::text::{fault_text, push_line};
 use crate::{Reader, Shelf, Trouble, about};
+use sk_text::MOST_BYTES;
 use std::alloc::{AllocError, Global};
 
 /// Whether Linux takes the filters in the files with these names.
@@ -27,7 +28,7 @@ pub fn check_answer<S: Shelf>(
     ensures told { Checks reader.now.manner (S.held reader.now.shelf.now) reader.now.context.now (map string_bytes names.now) (ending_of result) }
     ensures counted { CountsReads result reads.old reads.new }
 {
-    let files = contents(alloc, reader.shelf, reads, names)?;
+    let files = contents(alloc, reader.shelf, reads, names, MOST_BYTES)?;
     let Expansion { images, notes } = expanded(
         alloc,
         reader.manner,

@@ -9,7 +9,7 @@ ghost use Rattle.sk_ask.specs.Telling.{Told};
 use crate::analysis::Analysis;
 use crate::answer::Answer;
 use crate::help::{HELP, VERSION, word_help};
-use crate::nearest::of_unknown;
+use crate::nearest::{SEE_HELP, of_unknown};
 use crate::output::{complain, put};
 use crate::table::asked_answer;
 use crate::word::{NAMES, Word, asks_help, asks_version};
@@ -78,6 +78,7 @@ fn answer<S: Shelf, A: Analysis>(
                 first.as_bytes(),
                 first.as_bytes(),
                 &NAMES,
+                SEE_HELP,
             )?;
             Err(Trouble::Refused(line))
         }

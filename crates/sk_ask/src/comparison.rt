@@ -12,6 +12,7 @@ use crate::on::{On, chain_on};
 use crate::printing::Printing;
 use sk_document::comparison_document;
 use sk_filter::Chain;
+use sk_names::Architecture;
 use sk_when::{Budgets, Comparison, Finding, Names, Piece, Relation, comparison_text};
 use std::alloc::{AllocError, Global};
 
@@ -36,7 +37,7 @@ pub fn compared<A: Analysis>(
 {
     let old = chain_on(alloc, on.architecture, old)?;
     let new = chain_on(alloc, on.architecture, new)?;
-    let it = analysed(alloc, on, relation, &old, &new)?;
+    let it = analysed(alloc, on.analysis, on.architecture, relation, &old, &new)?;
     let names = Names {
         naming: on.naming,
         architecture: on.architecture,
@@ -48,20 +49,20 @@ pub fn compared<A: Analysis>(
     concluded(alloc, undone, it.finding, text, notes)
 }
 
-// The comparison of two chains with the steps that a comparison gets.
-fn analysed<A: Analysis>(
+/// The comparison of two chains with the steps that a comparison gets.
+pub fn analysed<A: Analysis>(
     alloc: Global,
-    on: &On<'_, A>,
+    analysis: &A,
+    architecture: Architecture,
     relation: Relation,
     old: &Chain,
     new: &Chain,
 ) -> Result<Comparison, AllocError>
-    ensures compared { IfOk result (λ it. IsAnalysed (A.may_spend on.now.analysis.now) on.now.architecture relation old.now new.now
+    ensures compared { IfOk result (λ it. IsAnalysed (A.may_spend analysis.now) architecture relation old.now new.now
         it.finding it.pieces.items) }
 {
     let mut budgets = Budgets::of_rows(MOST_ROWS);
-    let analysis = on.analysis;
-    analysis.diff(alloc, on.architecture, relation, old, new, &mut budgets)
+    analysis.diff(alloc, architecture, relation, old, new, &mut budgets)
 }
 
 fn printed(

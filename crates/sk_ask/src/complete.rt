@@ -1,7 +1,8 @@
 //! Whether all is there that a word of `ask` wants.
-ghost use Rattle.std.specs.Prelude.{◌≡◌, ◌≤◌, IfOk, length, slice_get};
+ghost use Rattle.std.specs.Prelude.{◌≡◌, ◌≤◌, ◌++◌, [], IfOk, codes, length, slice_get};
 ghost use Rattle.std.specs.Option.{option_map};
-ghost use Rattle.sk_ask.specs.Asking.{drawn, draws, tells_arguments, is_turned, turned_line, ended, complete, understood, named, none_missing, two_named, missing, wanted};
+ghost use Rattle.sk_ask.specs.Asking.{drawn, draws, tells_arguments, is_turned, turned_line, ended, complete, understood, named, none_missing, two_named, missing, wanted, word_name};
+ghost use Rattle.sk_ask.specs.Complaints.{of_word};
 ghost use Rattle.sk_ask.specs.Asked.{question_of, Asks, HasNames};
 
 use crate::word::Word;
@@ -98,7 +99,7 @@ fn tells_arguments(word: Word) -> bool
 {
     match word {
         Word::Calls { examples } => examples,
-        Word::Show | Word::Check => false,
+        Word::Show | Word::Check | Word::Allow => false,
         _ => true,
     }
 }
@@ -109,7 +110,7 @@ fn named(alloc: Global, asked: Asked) -> Result<Asked, Trouble>
     ensures named { IfOk result HasNames }
 {
     match asked.word {
-        Word::Diff { .. } => two_named(alloc, asked),
+        Word::Diff { .. } | Word::Page { compares: true } => two_named(alloc, asked),
         _ => none_missing(alloc, asked),
     }
 }
@@ -122,8 +123,15 @@ fn two_named(alloc: Global, asked: Asked) -> Result<Asked, Trouble>
     if asked.names.len() == 2 {
         return Ok(asked);
     }
-    let what = "diff: expected two FILEs, OLD and NEW";
-    Err(Trouble::Refused(of_word(alloc, what, b"")?))
+    Err(Trouble::Refused(two_wanted(alloc, asked.word)?))
+}
+
+// The line that says that a word wants two FILEs.
+fn two_wanted(alloc: Global, word: Word) -> Result<Vec<u8>, AllocError>
+    ensures line { IfOk result (λ line. line.items ≡ of_word (word_name word ++ codes ": expected two FILEs, OLD and NEW") []) }
+{
+    let what = format!(in alloc; "{}: expected two FILEs, OLD and NEW", word.name())?;
+    of_word(alloc, &what, b"")
 }
 
 fn none_missing(alloc: Global, asked: Asked) -> Result<Asked, Trouble>
@@ -142,10 +150,10 @@ fn missing(word: Word, count: usize) -> Option<&'static str>
     ensures kind { option_map (λ kind. kind.now) result ≡ slice_get (wanted word) count }
 {
     match (word, count) {
-        (Word::Diff { .. }, 0) => Some("OLD"),
-        (Word::Diff { .. }, 1) => Some("NEW"),
+        (Word::Diff { .. } | Word::Page { compares: true }, 0) => Some("OLD"),
+        (Word::Diff { .. } | Word::Page { compares: true }, 1) => Some("NEW"),
         (Word::Expect, 0) => Some("POLICY"),
-        (Word::Replay, 0) => Some("LOG"),
+        (Word::Replay | Word::Allow, 0) => Some("LOG"),
         (Word::Why, 0) => Some("CALL"),
         (Word::Expect | Word::Replay | Word::Why, 1) | (_, 0) => Some("FILE"),
         _ => None,

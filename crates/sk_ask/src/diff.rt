@@ -70,8 +70,8 @@ pub fn diff_answer<S: Shelf, A: Analysis>(
     reader.answer(alloc, reads, new, Diff { on, stricter, old })
 }
 
-// The first name, and those behind it.
-fn sides(names: &[String]) -> (&[String], &[String])
+/// The first name, and those behind it.
+pub fn sides(names: &[String]) -> (&[String], &[String])
     ensures old { map string_bytes result.0.now ≡ take 1 (map string_bytes names.now) }
     ensures new { map string_bytes result.1.now ≡ drop 1 (map string_bytes names.now) }
 {

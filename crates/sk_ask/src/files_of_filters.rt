@@ -22,6 +22,7 @@ use crate::text::fault_text;
 use crate::trouble::Trouble;
 use sk_filter::Chain;
 use sk_profile_json::Context;
+use sk_text::MOST_BYTES;
 use std::alloc::{AllocError, Global};
 
 /// The bytes of files, the filters that were found in them, the oldest first, their chain, and the lines of what is told of them.
@@ -55,7 +56,7 @@ impl<S: Shelf> Reader<'_, S> {
         ensures refused { IfErr result (IsRefusedOf self.now.manner (S.held self.now.shelf.now) self.now.context.now (map string_bytes names.now)) }
         ensures counted { CountsReads result reads.old reads.new }
     {
-        let files = contents(alloc, self.shelf, reads, names)?;
+        let files = contents(alloc, self.shelf, reads, names, MOST_BYTES)?;
         let expansion = expanded(alloc, self.manner, self.context, names, &files)?;
         read(alloc, names, files, expansion)
     }

@@ -12,23 +12,25 @@ pub const HELP: &str = "usage: ask WORD ..
   ask diff [--stricter] OLD NEW                 the calls that two chains of filters answer otherwise
   ask expect POLICY FILE..                      the calls whose verdicts are not as a policy expects
   ask lint [--all] FILE..                       the calls that get another verdict by bits that Linux does not read
-  ask replay LOG FILE..                         the verdicts on the calls that strace -f -X raw -e raw=all wrote to LOG
+  ask replay LOG FILE..                         the verdicts on the calls that strace -f -o LOG COMMAND or the kernel wrote
+  ask allow LOG..                               the least policy that allows the calls of such logs
   ask why 'CALL(ARG, ..)' FILE..                the path of one call through the filters, instruction by instruction
   ask show FILE                                 one filter for people, as a text that skern asm takes
   ask arches FILE..                             what the filters answer to calls of each architecture
   ask check FILE..                              whether Linux takes the filters, or the first fault of one
+  ask page [--old OLD] FILE..                   a page of HTML for reviewers, with --old also of what changed
   ask WORD --help                               more on a word
   ask --version                                 which program this is, and of which Linux it knows the calls
-All but filter, arches and check are about the calls of x86-64, or, with --arch ARCH, about those of another architecture: x32, i386,
-aarch64, arm, riscv64, ppc64le, s390x or loongarch64; lint is about those of x86-64 and x32 alone, and expect, where no ARCH is given,
-about those that its POLICY tells of. Names and numbers are those that calls have there. when, diff, expect and lint write numbers by
-the constants of Linux's headers, and with --numbers as they are. With --json these, calls, replay, why
-and arches print one JSON document.
+All but filter, arches and check are about the calls of x86-64, or, with --arch ARCH, about those of another architecture: x32,
+i386, aarch64, arm, riscv64, ppc64le, s390x or loongarch64. lint is about those of x86-64 and x32 alone, page about those of
+x86-64, and expect, where no ARCH is given, about those that its POLICY tells of. Names and numbers are those that calls have there.
+when, diff, expect, lint and page write numbers by the constants of Linux's headers, and with --numbers as they are. With --json
+calls, when, diff, expect, lint, replay, why and arches print one JSON document.
 FILE holds raw struct sock_filter, hexadecimal digits, lines filter HEX, a filter in another form, a policy as when writes one, or a
 seccomp profile of docker's or podman's kind in JSON, which may stand in a container's config.json, in a SeccompProfile or in what
-docker inspect prints; the last two stand for their filters. Other forms are arrays of C, with numbers or with BPF_STMT and BPF_JUMP, as strace has them too; decimals of
-tcpdump -ddd or bpf_asm; tables of seccomp-tools or scmp_bpf_disasm; and the bytes by xxd, xxd -i or hexdump -C, in strings of C, or in
-base64. - is standard input. Several FILEs are one chain, the oldest first.
+docker inspect prints; the last two stand for their filters. Other forms are arrays of C, with numbers or with BPF_STMT and
+BPF_JUMP, as strace has them too; decimals of tcpdump -ddd or bpf_asm; tables of seccomp-tools or scmp_bpf_disasm; and the bytes by
+xxd, xxd -i or hexdump -C, in strings of C, or in base64. - is standard input. Several FILEs are one chain, the oldest first.
 In a policy refused and performed are verdicts for expect alone, which also takes one that leaves verdicts out.
 Where a FILE is a profile, each WORD takes
   --cap NAME        a capability that is held there, as CAP_SYS_ADMIN, or docker, or all; as often as there are; else none is
@@ -38,6 +40,10 @@ Where a FILE is a profile, each WORD takes
   --runc            as runc attaches it, which has calls above the greatest number that is named fail with ENOSYS
   --strict          what is passed over in it, as a call that it names and Linux does not have, is trouble, and no note
 Status: 0 yes or answered, 1 answered with no, 2 trouble, which standard error tells.
+Three scripts of examples/, which packages install as programs too, take filters from processes and give them filters:
+  skern-attached COMMAND..      runs a command, and writes the filters that it attaches, as a FILE
+  skern-process-filters PID     writes the filters of a process that runs, as a FILE
+  skern-attach COMMAND..        attaches the filters of lines filter HEX on standard input, and becomes a command
 ";
 
 /// What `ask --version` says: the program, of which Linux the names of calls are, and what proved it.
@@ -138,12 +144,24 @@ A FILE may be a profile, and then --cap, --kernel, --machine, --native, --runc a
 
 /// What `ask replay --help` says.
 pub const REPLAY_HELP: &str = "usage: ask replay [--json] [--arch ARCH] LOG FILE..
-The calls in LOG, which strace -f -X raw -e raw=all -o LOG COMMAND wrote: each once, with how often it was made and the verdict
-of the filters in the FILEs, those first that are not performed; then how many lines are no calls, or are not understood.
+The calls in LOG, which strace -f -o LOG COMMAND wrote: each once, with how often it was made and the verdict of the filters in the
+FILEs, those first that are not performed; then how many lines are no calls, or are not understood. Of an argument that LOG shows as
+a text, a structure or a name that no table has, ? is written; where the verdict depends on one, its number stands in the verdict's
+place. strace -f -X raw -e raw=all -o LOG COMMAND shows each argument as a number. LOG may have lines that the kernel wrote too, with
+type=1326 or type=SECCOMP, as auditd, dmesg and journalctl print them: of such a call the number alone is known.
   --json        one JSON document in place of the text, whose form is in FORMATS.md
   --arch ARCH   the program was one of this architecture: ask --help has their names; s390x is not followed
-Status 1 where a call is not performed, or a line not understood. LOG has at most 268435456 bytes; - is standard input.
+Status 1 where a call is not performed or may not be, or a line not understood. LOG has at most 268435456 bytes; - is standard input.
 A FILE may be a profile, and then --cap, --kernel, --machine, --native, --runc and --strict say how it holds: ask --help has them.
+";
+
+/// What `ask allow --help` says.
+pub const ALLOW_HELP: &str = "usage: ask allow [--arch ARCH] LOG..
+The least policy that allows the calls in the LOGs, which strace -f -o LOG COMMAND wrote, or the kernel, in lines with type=1326 or
+type=SECCOMP: a row for each number of a call, in rising order, and EPERM for all other calls. ask filter makes the filter of it.
+  --arch ARCH   the programs were of this architecture: ask --help has their names; a policy for x32 is one of x86-64
+Status 1 where a line is not understood, which standard error tells. A LOG has at most 268435456 bytes; - is standard input.
+Calls that the programs did not make in these runs are refused, and so are those that a container's runtime makes before them.
 ";
 
 /// What `ask why --help` says.
@@ -152,8 +170,8 @@ The instructions of each filter that one call of x86-64, or of ARCH, comes to, t
 instruction, what A and X hold behind it, what a jump compared and where it went; then the verdict, and the filter and the place
 that it comes from.
 CALL is a name or a number, decimal or 0x and hexadecimal; an ARG, of at most six, a number of 64 bits, - and one of at most 2^63, or
-numbers and constants of Linux's headers with | between them, as SOCK_RAW|SOCK_CLOEXEC. A text in double quotes is an address that is
-not 0. Arguments that are not given are 0, and so is the instruction pointer.
+numbers and constants of Linux's headers with | between them, as SOCK_RAW|SOCK_CLOEXEC. Behind a 0 digits are octal, and NULL is 0. A
+text in double quotes is an address that is not 0. Arguments that are not given are 0, and so is the instruction pointer.
   --json        one JSON document in place of the text, whose form is in FORMATS.md
   --arch ARCH   a call of this architecture: ask --help has their names; s390x is not followed
 A FILE may be a profile, and then --cap, --kernel, --machine, --native, --runc and --strict say how it holds: ask --help has them.
@@ -187,6 +205,18 @@ Status 1 where a filter is refused, 2 where a FILE holds none.
 A FILE may be a profile, and then --cap, --kernel, --machine, --native, --runc and --strict say how it holds: ask --help has them.
 ";
 
+/// What `ask page --help` says.
+pub const PAGE_HELP: &str = "usage: ask page [--numbers] FILE..
+       ask page [--numbers] --old OLD NEW
+One page of HTML, without scripts, of what when, arches and lint tell of the filters in the FILEs: the calls of x86-64 that are refused,
+those whose arguments decide, and those that are allowed; the architectures; calls that get another verdict by bits that Linux does not
+read; and the JSON documents of these words. It is for reviewers, and is used by the keyboard as by the mouse.
+  --old OLD     first what diff tells of OLD and NEW: the calls that NEW is looser on, stricter, and other changes; then the page of NEW
+  --numbers     numbers as they are, and no constants of Linux's headers
+Status 0 where the page is printed, whatever it tells. Where a verdict is not known there is no page, and the status is 2.
+A FILE may be a profile, and then --cap, --kernel, --machine, --native, --runc and --strict say how it holds: ask --help has them.
+";
+
 /// What `ask WORD --help` says.
 pub fn word_help(word: Word) -> &'static str
     ensures text { result.now ≡ word_help_text word }
@@ -199,9 +229,11 @@ pub fn word_help(word: Word) -> &'static str
         Word::Expect => EXPECT_HELP,
         Word::Lint { .. } => LINT_HELP,
         Word::Replay => REPLAY_HELP,
+        Word::Allow => ALLOW_HELP,
         Word::Why => WHY_HELP,
         Word::Show => SHOW_HELP,
         Word::Arches => ARCHES_HELP,
         Word::Check => CHECK_HELP,
+        Word::Page { .. } => PAGE_HELP,
     }
 }

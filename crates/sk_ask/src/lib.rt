@@ -4,6 +4,7 @@
 //! has is decided by its bytes alone, and several files are one chain, the oldest filter first.
 #![tactic(auto)]
 
+mod allow;
 mod analysis;
 mod answer;
 mod arches;
@@ -17,6 +18,7 @@ mod complaint;
 mod complete;
 mod conclusion;
 mod context;
+mod deciding;
 mod demands;
 mod diff;
 mod each;
@@ -31,6 +33,7 @@ mod form;
 mod found;
 mod help;
 mod kind;
+mod known;
 pub mod laws;
 mod lines;
 mod lint;
@@ -41,6 +44,7 @@ mod only;
 mod order;
 mod other_names;
 mod output;
+mod page;
 mod printing;
 mod remark;
 mod replay;

@@ -84,8 +84,8 @@ pub fn lint_answer<S: Shelf, A: Analysis>(
     reader.answer(alloc, reads, names, lint)
 }
 
-// What is found of a chain with the steps that this gets.
-fn linted<A: Analysis>(alloc: Global, analysis: &A, chain: &Chain) -> Result<Linted, AllocError>
+/// What is found of a chain with the steps that this gets.
+pub fn linted<A: Analysis>(alloc: Global, analysis: &A, chain: &Chain) -> Result<Linted, AllocError>
     requires limited { IsWithinLimit chain.now }
     ensures linted { IfOk result (λ it. IsLinted (A.may_spend analysis.now) chain.now it.finding it.pieces.items (string_bytes it.notes)) }
 {
@@ -129,8 +129,8 @@ fn answered(
     concluded(alloc, NOT_FOLLOWED, finding, text, notes)
 }
 
-// The lines of what is noted.
-fn note_text(alloc: Global, notes: &str) -> Result<Vec<u8>, AllocError>
+/// The lines of what is noted.
+pub fn note_text(alloc: Global, notes: &str) -> Result<Vec<u8>, AllocError>
     ensures text { IfOk result (λ text. text.items ≡ note_text notes.now) }
 {
     let mut text = Vec::new(alloc);

@@ -17,34 +17,46 @@ use strsim::generic_damerau_levenshtein;
 /// A longer word means no name.
 const MOST_LETTERS: usize = 64;
 
-/// The line that says what is wrong, with the word that names nothing, and the name that may be meant by what is sought of it.
+/// Where the names of words, architectures and machines stand.
+pub const SEE_HELP: &str = "; see ask --help";
+
+/// Where those of capabilities stand.
+pub const SEE_CAPABILITIES: &str = "; see capabilities(7)";
+
+/// The line that says what is wrong, with the word that names nothing, and the name that may be meant by what is sought of it, or
+/// else where the names stand.
 pub(crate) fn of_unknown(
     alloc: Global,
     what: &str,
     word: &[u8],
     sought: &[u8],
     names: &[&'static str],
+    elsewhere: &str,
 ) -> Result<Vec<u8>, AllocError>
-    ensures line { IfOk result (λ line. line.items ≡ of_unknown what.now word.now sought.now (map (λ name. name.now) names.now)) }
+    ensures line { IfOk result (λ line.
+        line.items ≡ of_unknown what.now word.now sought.now (map (λ name. name.now) names.now) elsewhere.now) }
 {
     let meant = nearest(alloc, sought, names)?;
     let mut line = Vec::new(alloc);
     line.extend_from_slice(b"ask: ")?;
     line.extend_from_slice(what.as_bytes())?;
     line.extend_from_slice(&shown(alloc, word)?)?;
-    line.extend_from_slice(&meant_text(alloc, meant)?)?;
+    line.extend_from_slice(&meant_text(alloc, elsewhere, meant)?)?;
     line.extend_from_slice(b"\n")?;
     Ok(line)
 }
 
-fn meant_text(alloc: Global, meant: Option<&str>) -> Result<Vec<u8>, AllocError>
-    ensures text { IfOk result (λ text. text.items ≡ meant_text (option_map (λ name. name.now) meant.entry)) }
+fn meant_text(alloc: Global, elsewhere: &str, meant: Option<&str>) -> Result<Vec<u8>, AllocError>
+    ensures text { IfOk result (λ text. text.items ≡ meant_text elsewhere.now (option_map (λ name. name.now) meant.entry)) }
 {
     let mut text = Vec::new(alloc);
-    if let Some(name) = meant {
-        text.extend_from_slice(b": did you mean ")?;
-        text.extend_from_slice(name.as_bytes())?;
-        text.extend_from_slice(b"?")?;
+    match meant {
+        Some(name) => {
+            text.extend_from_slice(b": did you mean ")?;
+            text.extend_from_slice(name.as_bytes())?;
+            text.extend_from_slice(b"?")?;
+        }
+        None => text.extend_from_slice(elsewhere.as_bytes())?,
     }
     Ok(text)
 }
@@ -58,7 +70,14 @@ pub(crate) fn no_call_named(
     ensures line { IfOk result (λ line. line.items ≡ no_call_named architecture word.now) }
 {
     let names = call_names(alloc, architecture)?;
-    of_unknown(alloc, "no call is named ", word, bare_name(word), &names)
+    of_unknown(
+        alloc,
+        "no call is named ",
+        word,
+        bare_name(word),
+        &names,
+        "",
+    )
 }
 
 fn call_names(alloc: Global, architecture: Architecture) -> Result<Vec<&'static str>, AllocError>

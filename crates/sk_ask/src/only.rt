@@ -1,24 +1,17 @@
 //! The verdicts that `--only` looks for, and the rows that have one.
-ghost use Rattle.std.specs.Prelude.{◌≡◌, ◌≤◌, true, IfSome};
-ghost use Rattle.std.specs.Option.{option_or};
+ghost use Rattle.std.specs.Prelude.{◌≡◌};
 ghost use Rattle.std.specs.List.{list_any};
-ghost use Rattle.sk_policy_text.specs.Verdicts.{action_in, action_value, data_of, has_slash};
-ghost use Rattle.sk_replay.specs.WordCalls.{plain_number};
-ghost use Rattle.sk_filter.specs.Errors.{error_number};
+ghost use Rattle.sk_policy_text.specs.Verdicts.{action_in};
 ghost use Rattle.sk_survey.specs.Answers.{answers_of};
 ghost use Rattle.sk_insn.specs.Actions.{action_part, has_value};
 ghost use Rattle.sk_ask.specs.Only.{end_has_sought, have_sought, is_any_sought, is_sought, line_has_sought, lines_sought, row_has_sought, rows_sought, sought_named};
 
-use sk_filter::error_number;
 use sk_insn::Action;
-use sk_replay::plain_number;
+use sk_policy_text::action_value;
 use sk_show::Line;
 use sk_survey::Answers;
 use sk_text::cut;
 use sk_when::ConditionalRow;
-
-/// The greatest number of an error: MAX_ERRNO of linux/err.h.
-const MOST_ERRNO: u64 = 4095;
 
 /// The verdicts that are looked for.
 #[derive(Clone, Copy, Debug)]
@@ -35,7 +28,7 @@ impl Sought {
         ensures sought { result ≡ sought_named word.now }
     {
         if word.contains(&b'/') {
-            let value = value_named(word)?;
+            let value = action_value(word)?;
             Some(Sought::Value(value))
         } else {
             let action = action_in(word)?;
@@ -44,54 +37,11 @@ impl Sought {
     }
 }
 
-// The value that a word with a slash is.
-#[tactic(auto, unfolding(sk_policy_text::specs::Verdicts::action_value, sk_policy_text::specs::Verdicts::data_in))]
-fn value_named(word: &[u8]) -> Option<u32>
-    requires slash { has_slash word.now ≡ true }
-    ensures value { result ≡ action_value word.now }
-{
-    let (name, given) = cut(word, b'/');
-    let action = Action::named(name)?;
-    let value = action.value()?;
-    let data = data_of(action, given)?;
-    Some(value + data)
-}
-
 fn action_in(word: &[u8]) -> Option<Action>
     ensures action { result ≡ action_in word.now }
 {
     let (name, _given) = cut(word, b'/');
     Action::named(name)
-}
-
-// The data that a text is for an action.
-fn data_of(action: Action, text: &[u8]) -> Option<u32>
-    ensures given { result ≡ data_of action text.now }
-    ensures bound { IfSome result (λ given. given ≤ 65535) }
-{
-    match action {
-        Action::Errno => errno_or_name(text),
-        _ => number_in(text, 65535),
-    }
-}
-
-fn errno_or_name(text: &[u8]) -> Option<u32>
-    ensures given { result ≡ option_or (plain_number 4095 text.now) (error_number text.now) }
-    ensures bound { IfSome result (λ given. given ≤ 65535) }
-{
-    match number_in(text, MOST_ERRNO) {
-        Some(number) => Some(number),
-        None => error_number(text),
-    }
-}
-
-fn number_in(text: &[u8], most: u64) -> Option<u32>
-    requires most { most ≤ 65535 }
-    ensures number { result ≡ plain_number most text.now }
-    ensures bound { IfSome result (λ number. number ≤ 65535) }
-{
-    let number = plain_number(text, most)?;
-    Some(number as u32)
 }
 
 /// The lines whose verdicts have one that is looked for; all, where nothing is.

@@ -1,8 +1,8 @@
 //! `ask replay`: the verdicts on the calls of a log.
-ghost use Rattle.std.specs.Prelude.{◌≤◌, length, map, string_bytes};
+ghost use Rattle.std.specs.Prelude.{◌≡◌, ◌≤◌, ◌++◌, IfOk, OnOk, length, map, string_bytes};
 ghost use Rattle.sk_ask.specs.Counts.{CountsReads};
 ghost use Rattle.sk_ask.specs.Endings.{ComesTo, ending_of};
-ghost use Rattle.sk_ask.specs.Replays.{OfLog, replayed};
+ghost use Rattle.sk_ask.specs.Replays.{OfLog, replayed, unclear_note, unclear_notes};
 ghost use Rattle.sk_ask.specs.Troubles.{OfFiles, OfFirst};
 
 use crate::answer::{Answer, Tells};
@@ -12,10 +12,12 @@ use crate::{Filters, MOST_LOG_BYTES, Reader, Shelf, Trouble, about, content};
 use sk_document::replay_document;
 use sk_names::Architecture;
 use sk_replay::replay_text;
-use std::alloc::Global;
+use std::alloc::{AllocError, Global};
+use std::fmt::Write;
 
 /// What is said of a log without a call.
-const NO_CALL: &str = "holds no call: expected lines as strace -f -X raw -e raw=all writes them";
+pub const NO_CALL: &str =
+    "holds no call: expected lines as strace -f writes them, or the kernel's with type=1326";
 
 /// `ask replay`, behind the file of this name, which holds the log.
 #[derive(Drop)]
@@ -41,12 +43,37 @@ impl Tells for Replay<'_> {
             Printing::Text => replay_text(alloc, self.architecture, &replay)?.into_bytes(),
             Printing::Document => replay_document(alloc, self.architecture, &replay)?,
         };
+        let mut notes = filters.notes;
+        add_notes(alloc, &mut notes, self.name, &replay.unclear_lines)?;
         Ok(Answer {
             text,
-            notes: filters.notes,
+            notes,
             denies: replay.denies(),
         })
     }
+}
+
+// Notes the lines with these numbers, which are not understood.
+fn add_notes(
+    alloc: Global,
+    notes: &mut Vec<u8>,
+    name: &str,
+    numbers: &[u64],
+) -> Result<(), AllocError>
+    ensures noted { OnOk result (notes.new.items ≡ notes.old.items ++ unclear_notes name.now numbers.now) }
+{
+    for number in numbers {
+        notes.extend_from_slice(&unclear_note(alloc, name, *number)?)?;
+    }
+    Ok(())
+}
+
+fn unclear_note(alloc: Global, name: &str, number: u64) -> Result<Vec<u8>, AllocError>
+    ensures note { IfOk result (λ note. note.items ≡ unclear_note name.now number) }
+{
+    let mut text = String::new(alloc);
+    write!(text, "line {number} is not understood")?;
+    about(alloc, name, text.as_str())
 }
 
 /// The answer to the log in the file with the first of these names, and to the filters of the files behind it.

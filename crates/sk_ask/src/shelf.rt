@@ -7,7 +7,7 @@ ghost use Rattle.sk_ask.specs.Taking.{CountsUnread, CountsWhy, IsTaken, IsUntake
 
 use crate::complaint::about;
 use crate::trouble::Trouble;
-use sk_text::{MOST_BYTES, ReadFault};
+use sk_text::ReadFault;
 use std::alloc::{AllocError, Global};
 
 /// Where files are read, each once, by their names.
@@ -128,22 +128,24 @@ fn unopened_text(why: Unopened) -> &'static str
     }
 }
 
-/// What the files of filters with these names hold, or why the first that can't be read is not read.
+/// What the files with these names hold, each of which may have so many bytes, or why the first that can't be read is not read.
 pub fn contents<S: Shelf>(
     alloc: Global,
     shelf: &S,
     reads: &mut u64,
     names: &[String],
+    most: usize,
 ) -> Result<Vec<Vec<u8>>, Trouble>
-    ensures contents { IfOk result (λ files. AreContents MOST_BYTES (S.held shelf.now) (map string_bytes names.now) (map (λ file. file.items) files.items)) }
+    requires limit { most < 2 ^ 64 - 1 }
+    ensures contents { IfOk result (λ files. AreContents most (S.held shelf.now) (map string_bytes names.now) (map (λ file. file.items) files.items)) }
     ensures each { IfOk result (λ files. vec_len files ≡ length names.now) }
-    ensures unread { IfErr result (IsUnreadOf MOST_BYTES (S.held shelf.now) (map string_bytes names.now)) }
+    ensures unread { IfErr result (IsUnreadOf most (S.held shelf.now) (map string_bytes names.now)) }
     ensures counted { CountsReads result reads.old reads.new }
 {
     let mut files = Vec::new(alloc);
     let mut rest = names;
     while let Some((name, left)) = rest.split_first() {
-        let bytes = content(alloc, shelf, reads, name.as_str(), MOST_BYTES)?;
+        let bytes = content(alloc, shelf, reads, name.as_str(), most)?;
         files.push(bytes)?;
         rest = left;
     }

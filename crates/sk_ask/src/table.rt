@@ -7,6 +7,7 @@ ghost use Rattle.sk_ask.specs.Asked.{question_of};
 ghost use Rattle.sk_ask.specs.Endings.{ending_of};
 ghost use Rattle.sk_ask.specs.Troubles.{OfFiles};
 
+use crate::allow::allow_answer;
 use crate::analysis::Analysis;
 use crate::answer::Answer;
 use crate::arches::Arches;
@@ -19,6 +20,7 @@ use crate::filter::Filter;
 use crate::lint::lint_answer;
 use crate::manner::manner_of;
 use crate::on::{On, architecture_of, asked_calls, naming_asked};
+use crate::page::{comparison_answer, page_answer};
 use crate::printing::printing_asked;
 use crate::replay::replay_answer;
 use crate::show::Show;
@@ -118,9 +120,12 @@ fn by_word<S: Shelf, A: Analysis>(
         Word::Expect => expect_answer(alloc, asked, names, reader.shelf, on.analysis, reads),
         Word::Lint { all } => lint_answer(alloc, names, reader, on, all, reads),
         Word::Replay => replay_answer(alloc, names, reader, architecture, printing, reads),
+        Word::Allow => allow_answer(alloc, names, reader.shelf, architecture, reads),
         Word::Why => why_answer(alloc, names, reader, architecture, printing, reads),
         Word::Show => reader.answer(alloc, reads, names, Show { architecture }),
         Word::Arches => reader.answer(alloc, reads, names, Arches { printing }),
         Word::Check => check_answer(alloc, names, reader, reads),
+        Word::Page { compares: false } => page_answer(alloc, names, reader, on, reads),
+        Word::Page { compares: true } => comparison_answer(alloc, names, reader, on, reads),
     }
 }

@@ -3,6 +3,7 @@ ghost use Rattle.std.specs.Prelude.{◌≡◌, ◌≤◌, IfOk, IfErr, Ok, lengt
 ghost use Rattle.std.specs.Result.{is_ok};
 ghost use Rattle.sk_replay.specs.CallWords.{call_meant};
 ghost use Rattle.sk_replay.specs.Faults.{fault_of};
+ghost use Rattle.sk_document.specs.Deciding.{pair_of};
 ghost use Rattle.sk_ask.specs.OtherNames.{bare_name};
 ghost use Rattle.sk_ask.specs.Counts.{CountsReads};
 ghost use Rattle.sk_ask.specs.Endings.{ending_of};
@@ -10,37 +11,44 @@ ghost use Rattle.sk_ask.specs.Troubles.{OfFiles, OfFirst};
 ghost use Rattle.sk_ask.specs.Whys.{IsFaultOf, IsWhyPrinted, OfMeant, TellsWhyOf, fault_line, no_call_line, other_line};
 
 use crate::answer::{Answer, Tells};
+use crate::deciding::{decisions_of, push_decisions};
 use crate::nearest::no_call_named;
 use crate::other_names::bare_name;
 use crate::printing::Printing;
 use crate::words::first_name;
 use crate::{Filters, Reader, Shelf, Trouble, of_word};
-use sk_document::why_document;
+use sk_document::{Decision, why_document};
 use sk_filter::Chain;
 use sk_insn::Record;
 use sk_names::Architecture;
+use sk_profile_json::Context;
 use sk_replay::{CallFault, call_in, name_part, plain_word};
 use sk_show::why;
 use std::alloc::{AllocError, Global};
 
-/// `ask why`, behind the call.
+/// `ask why`, behind the call, of FILEs with these names, where the profiles among them are to hold so.
 #[derive(Drop)]
-pub struct Why {
+pub struct Why<'a> {
     pub printing: Printing,
     pub architecture: Architecture,
     pub call: Record,
+    pub context: &'a Context<'a>,
+    pub names: &'a [String],
 }
 
-impl Tells for Why {
-    ghost tells = { λ it read ending. TellsWhyOf it.printing it.architecture it.call read.chain read.notes ending };
+impl Tells for Why<'_> {
+    ghost tells = { λ it read ending.
+        TellsWhyOf it.printing it.architecture it.call it.context.now (map string_bytes it.names.now) read ending };
 
     fn told(self, alloc: Global, filters: Filters) -> Result<Answer, Trouble> {
+        let decisions = decisions_of(alloc, self.context, &self.call, self.names, &filters.files)?;
         let text = printed(
             alloc,
             self.printing,
             self.architecture,
             &filters.chain,
             &self.call,
+            &decisions,
         )?;
         Ok(Answer {
             text,
@@ -56,12 +64,17 @@ fn printed(
     architecture: Architecture,
     chain: &Chain,
     call: &Record,
+    decisions: &[Decision<'_>],
 ) -> Result<Vec<u8>, AllocError>
-    ensures printed { IfOk result (λ text. IsWhyPrinted printing architecture chain.now call.now text.items) }
+    ensures printed { IfOk result (λ text. IsWhyPrinted printing architecture chain.now call.now (map pair_of decisions.now) text.items) }
 {
     match printing {
-        Printing::Text => Ok(why(alloc, architecture, chain, call)?.into_bytes()),
-        Printing::Document => why_document(alloc, architecture, chain, call),
+        Printing::Text => {
+            let mut text = why(alloc, architecture, chain, call)?;
+            push_decisions(alloc, &mut text, decisions)?;
+            Ok(text.into_bytes())
+        }
+        Printing::Document => why_document(alloc, architecture, chain, call, decisions),
     }
 }
 
@@ -77,7 +90,7 @@ pub fn why_answer<S: Shelf>(
     requires named { 1 ≤ length names.now }
     ensures told { OfFirst (map string_bytes names.now) (ending_of result) (λ word others. OfMeant architecture word others (ending_of result) (λ call.
         OfFiles reader.now.manner (S.held reader.now.shelf.now) reader.now.context.now others (ending_of result) (λ read.
-        TellsWhyOf printing architecture call read.chain read.notes (ending_of result)))) }
+        TellsWhyOf printing architecture call reader.now.context.now others read (ending_of result)))) }
     ensures counted { CountsReads result reads.old reads.new }
 {
     let (word, files) = first_name(names);
@@ -86,6 +99,8 @@ pub fn why_answer<S: Shelf>(
         printing,
         architecture,
         call,
+        context: reader.context,
+        names: files,
     };
     reader.answer(alloc, reads, files, it)
 }

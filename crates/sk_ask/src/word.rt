@@ -2,7 +2,7 @@
 ghost use Rattle.std.specs.Prelude.{◌≡◌, IfOk, filter, map};
 ghost use Rattle.std.specs.List.{list_any};
 ghost use Rattle.std.specs.Str.{bytes_eq};
-ghost use Rattle.sk_ask.specs.Asking.{asks_help, asks_version, has_option, is_of_another, options_meant, options_of, shared_flags, valued_name, valued_named, value_kind, tells_calls, tells_conditions, tells_of_one, with_own_flag, with_target, word_named, writes_documents, writes_filters, word_name};
+ghost use Rattle.sk_ask.specs.Asking.{asks_help, asks_version, has_option, is_of_another, options_meant, options_of, shared_flags, valued_name, valued_named, value_kind, tells_calls, tells_conditions, tells_of_one, may_compare, compares, with_old, with_own_flag, with_target, word_named, writes_documents, writes_filters, word_name};
 
 use crate::target::Target;
 use sk_text::is_same;
@@ -25,6 +25,8 @@ pub enum Word {
     Lint { all: bool },
     /// The verdicts on the calls of a log.
     Replay,
+    /// The least policy that allows the calls of logs.
+    Allow,
     /// The path of a call through the filters.
     Why,
     /// The listing of one filter.
@@ -33,15 +35,18 @@ pub enum Word {
     Arches,
     /// Whether Linux takes the filters.
     Check,
+    /// What a reviewer reads of the filters, and of what changed since an old one.
+    Page { compares: bool },
 }
 
 /// The names of all words.
-pub const NAMES: [&str; 11] = [
-    "calls", "filter", "when", "diff", "expect", "lint", "replay", "why", "show", "arches", "check",
+pub const NAMES: [&str; 13] = [
+    "calls", "filter", "when", "diff", "expect", "lint", "replay", "allow", "why", "show",
+    "arches", "check", "page",
 ];
 
 /// The names of all options, those of several words first.
-pub const OPTIONS: [&str; 19] = [
+pub const OPTIONS: [&str; 20] = [
     "--help",
     "--arch",
     "--cap",
@@ -61,6 +66,7 @@ pub const OPTIONS: [&str; 19] = [
     "--dot",
     "--stricter",
     "--all",
+    "--old",
 ];
 
 impl Word {
@@ -85,6 +91,8 @@ impl Word {
             Some(Word::Lint { all: false })
         } else if is_same(name, b"replay") {
             Some(Word::Replay)
+        } else if is_same(name, b"allow") {
+            Some(Word::Allow)
         } else if is_same(name, b"why") {
             Some(Word::Why)
         } else if is_same(name, b"show") {
@@ -93,6 +101,8 @@ impl Word {
             Some(Word::Arches)
         } else if is_same(name, b"check") {
             Some(Word::Check)
+        } else if is_same(name, b"page") {
+            Some(Word::Page { compares: false })
         } else {
             None
         }
@@ -110,10 +120,22 @@ impl Word {
             Word::Expect => "expect",
             Word::Lint { .. } => "lint",
             Word::Replay => "replay",
+            Word::Allow => "allow",
             Word::Why => "why",
             Word::Show => "show",
             Word::Arches => "arches",
             Word::Check => "check",
+            Word::Page { .. } => "page",
+        }
+    }
+
+    // The same, where its filters are compared with an old one.
+    pub(crate) fn with_old(self) -> Word
+        ensures word { result ≡ with_old self }
+    {
+        match self {
+            Word::Page { .. } => Word::Page { compares: true },
+            _ => self,
         }
     }
 
@@ -170,6 +192,8 @@ pub enum Valued {
     Arch,
     /// The form that filters are written in.
     To,
+    /// The file with an old filter.
+    Old,
 }
 
 impl Valued {
@@ -184,6 +208,7 @@ impl Valued {
             Valued::Machine => "--machine",
             Valued::Arch => "--arch",
             Valued::To => "--to",
+            Valued::Old => "--old",
         }
     }
 
@@ -197,6 +222,7 @@ impl Valued {
             Valued::Cap | Valued::Machine | Valued::Arch => "a name",
             Valued::Kernel => "a version as 6.1",
             Valued::To => "raw, hex, lines, c, base64, bpf_asm or json",
+            Valued::Old => "a FILE",
         }
     }
 
@@ -218,6 +244,8 @@ impl Valued {
             Some(Valued::Arch)
         } else if writes_filters(word) && is_same(name, b"--to") {
             Some(Valued::To)
+        } else if may_compare(word) && is_same(name, b"--old") {
+            Some(Valued::Old)
         } else {
             None
         }
@@ -322,7 +350,7 @@ pub(crate) fn tells_conditions(word: Word) -> bool
 {
     matches!(
         word,
-        Word::When { .. } | Word::Diff { .. } | Word::Expect | Word::Lint { .. }
+        Word::When { .. } | Word::Diff { .. } | Word::Expect | Word::Lint { .. } | Word::Page { .. }
     )
 }
 
@@ -343,6 +371,20 @@ pub(crate) fn writes_documents(word: Word) -> bool
     )
 }
 
+// Whether an old filter may stand before its FILE.
+fn may_compare(word: Word) -> bool
+    ensures may { result ≡ may_compare word }
+{
+    matches!(word, Word::Page { .. })
+}
+
+// Whether one does.
+pub(crate) fn compares(word: Word) -> bool
+    ensures compares { result ≡ compares word }
+{
+    matches!(word, Word::Page { compares: true })
+}
+
 fn writes_filters(word: Word) -> bool
     ensures writes { result ≡ writes_filters word }
 {
@@ -353,5 +395,8 @@ fn writes_filters(word: Word) -> bool
 fn tells_of_one(word: Word) -> bool
     ensures tells { result ≡ tells_of_one word }
 {
-    !matches!(word, Word::Filter { .. } | Word::Lint { .. } | Word::Arches)
+    !matches!(
+        word,
+        Word::Filter { .. } | Word::Lint { .. } | Word::Arches | Word::Page { .. }
+    )
 }

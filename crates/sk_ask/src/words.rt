@@ -4,17 +4,21 @@ ghost use Rattle.std.specs.List.{before_first, after_first, slice_split};
 ghost use Rattle.sk_profile_json.specs.Capabilities.{capability};
 ghost use Rattle.sk_profile_json.specs.Machines.{machine_named};
 ghost use Rattle.sk_ask.specs.Asking.{asked_of, nothing_asked, ends_options, with_names, with_word, with_free, with_joined_or_flag, with_joined, is_equals, with_valued, with_value, with_caps, with_only, with_each_cap, is_comma, with_form, with_kernel, with_machine, with_architecture, with_flag, with_name, is_given, valued_named, expected_line, is_option, no_capability_line, no_machine_line, no_option_line, word_name};
-ghost use Rattle.sk_ask.specs.Nearest.{architecture_names, of_unknown};
+ghost use Rattle.sk_ask.specs.Nearest.{architecture_names, of_unknown, see_help};
 ghost use Rattle.sk_ask.specs.OtherNames.{architecture_meant};
 ghost use Rattle.sk_ask.specs.Asked.{question_of, Asks, HasNames};
-ghost use Rattle.sk_ask.specs.declared.word.Valued.TheVariants.{Call};
+ghost use Rattle.sk_ask.specs.declared.word.Valued.TheVariants.{Call, Old};
 
 use crate::complete::{ended, is_turned, turned_line};
-use crate::nearest::{architecture_names, capability_names, machine_names, of_unknown};
+use crate::nearest::{
+    SEE_CAPABILITIES, SEE_HELP, architecture_names, capability_names, machine_names, of_unknown,
+};
 use crate::only::Sought;
 use crate::other_names::{architecture_meant, kernel_meant};
 use crate::target::Target;
-use crate::word::{Valued, Word, asks_help, options_meant, tells_conditions, writes_documents};
+use crate::word::{
+    Valued, Word, asks_help, compares, options_meant, tells_conditions, writes_documents,
+};
 use crate::{Trouble, of_word};
 use sk_names::Architecture;
 use sk_profile_json::{Kernel, Machine, capability};
@@ -142,7 +146,22 @@ fn with_value(alloc: Global, option: Valued, asked: Asked, text: &str) -> Result
         Valued::Machine => with_machine(alloc, asked, text.as_bytes()),
         Valued::Arch => with_architecture(alloc, asked, text.as_bytes()),
         Valued::To => with_form(alloc, asked, Target::named(text.as_bytes())),
+        Valued::Old => Ok(with_old(alloc, asked, text)?),
     }
+}
+
+// An old filter, whose file stands before the others.
+fn with_old(alloc: Global, asked: Asked, text: &str) -> Result<Asked, AllocError>
+    ensures exact { IfOk result (λ more. Ok (question_of more) ≡ with_value Old (question_of asked) text.now) }
+{
+    let mut asked = Asked {
+        word: asked.word.with_old(),
+        awaits: None,
+        ..asked
+    };
+    let old = String::from_str(alloc, text)?;
+    asked.names.insert(0, old)?;
+    Ok(asked)
 }
 
 fn with_call(alloc: Global, asked: Asked, text: &str) -> Result<Asked, AllocError>
@@ -205,7 +224,8 @@ fn no_capability_line(alloc: Global, word: Word, text: &[u8]) -> Result<Vec<u8>,
 {
     let what = format!(in alloc; "{}: no capability is named ", word.name())?;
     let sought = text.to_ascii_uppercase(alloc)?;
-    of_unknown(alloc, &what, text, &sought, &capability_names(alloc)?)
+    let names = capability_names(alloc)?;
+    of_unknown(alloc, &what, text, &sought, &names, SEE_CAPABILITIES)
 }
 
 fn with_kernel(alloc: Global, asked: Asked, kernel: Option<Kernel>) -> Result<Asked, Trouble>
@@ -243,7 +263,7 @@ fn no_machine_line(alloc: Global, word: Word, text: &[u8]) -> Result<Vec<u8>, Al
         return turned_line(alloc, word, b"--machine s390x");
     }
     let what = format!(in alloc; "{}: no machine is named ", word.name())?;
-    of_unknown(alloc, &what, text, text, &machine_names(alloc)?)
+    of_unknown(alloc, &what, text, text, &machine_names(alloc)?, SEE_HELP)
 }
 
 fn with_architecture(alloc: Global, asked: Asked, text: &[u8]) -> Result<Asked, Trouble>
@@ -263,10 +283,11 @@ fn with_architecture(alloc: Global, asked: Asked, text: &[u8]) -> Result<Asked, 
 // What is said of a word that names no architecture.
 fn no_architecture_line(alloc: Global, word: Word, text: &[u8]) -> Result<Vec<u8>, AllocError>
     ensures line { IfOk result (λ line.
-        line.items ≡ of_unknown (word_name word ++ codes ": no architecture is named ") text.now text.now architecture_names) }
+        line.items ≡ of_unknown (word_name word ++ codes ": no architecture is named ") text.now text.now architecture_names see_help) }
 {
     let what = format!(in alloc; "{}: no architecture is named ", word.name())?;
-    of_unknown(alloc, &what, text, text, &architecture_names(alloc)?)
+    let names = architecture_names(alloc)?;
+    of_unknown(alloc, &what, text, text, &names, SEE_HELP)
 }
 
 fn with_form(alloc: Global, asked: Asked, target: Option<Target>) -> Result<Asked, Trouble>
@@ -360,6 +381,7 @@ fn is_given(option: Valued, asked: &Asked) -> bool
         Valued::Machine => asked.machine.is_some(),
         Valued::Arch => asked.arch.is_some(),
         Valued::To => false,
+        Valued::Old => compares(asked.word),
     }
 }
 
@@ -418,14 +440,10 @@ fn no_option_line(alloc: Global, word: Word, text: &str) -> Result<Vec<u8>, Allo
     ensures line { IfOk result (λ line. line.items ≡ no_option_line word text.now (before_first is_equals text.now)) }
 {
     let what = format!(in alloc; "{}: no option is named ", word.name())?;
+    let elsewhere = format!(in alloc; "; see ask {} --help", word.name())?;
     let sought = before_equals(text).as_bytes();
-    of_unknown(
-        alloc,
-        &what,
-        text.as_bytes(),
-        sought,
-        &options_meant(alloc, word, sought)?,
-    )
+    let names = options_meant(alloc, word, sought)?;
+    of_unknown(alloc, &what, text.as_bytes(), sought, &names, &elsewhere)
 }
 
 // A word that begins with `-` and is more than that.

@@ -5,8 +5,8 @@ use Rattle.sk_ask.proofs.shelf.contents.Given as goal
 
 abbrev pub invariant-loop-name : goal.invariant-loop-name
 invariant-loop-name g l = record {
-  so_far : (more : List (List ℕ)) → AreContents 1048576 (g.S.Shelf.held l.shelf) (map string_bytes l.rest) more → AreContents 1048576 (g.S.Shelf.held l.shelf) (map string_bytes l.names) (map (λ file. file.items) l.files.items ++ more);
-  among : (why : Trouble) → IsUnreadOf 1048576 (g.S.Shelf.held l.shelf) (map string_bytes l.rest) why → IsUnreadOf 1048576 (g.S.Shelf.held l.shelf) (map string_bytes l.names) why;
+  so_far : (more : List (List ℕ)) → AreContents l.most (g.S.Shelf.held l.shelf) (map string_bytes l.rest) more → AreContents l.most (g.S.Shelf.held l.shelf) (map string_bytes l.names) (map (λ file. file.items) l.files.items ++ more);
+  among : (why : Trouble) → IsUnreadOf l.most (g.S.Shelf.held l.shelf) (map string_bytes l.rest) why → IsUnreadOf l.most (g.S.Shelf.held l.shelf) (map string_bytes l.names) why;
   each : length l.files.items + length l.rest ≡ length l.names;
   counted : l.reads ≡ l.fn.reads;
 }
