@@ -234,10 +234,6 @@ const DENIALS: &[(&str, &str)] = &[
         "1 getpid() errno/1 EPERM\n2 read(0x3, 0x7ffd, 0x40) allow\n1 line is no call\n",
     ),
     (
-        "replay cut all",
-        "1 getpid() allow\n1 line is not understood\n",
-    ),
-    (
         "diff all getpid",
         "stricter:\n39 getpid: allow -> errno/1 EPERM\n  record 270000003e0000c00000000000000000000000000000000000000000000000000000000000000000000000000000000000000000000000000000000000000000\n  syscall(SYS_getpid, 0x0, 0x0, 0x0, 0x0, 0x0, 0x0)\n",
     ),
@@ -286,6 +282,18 @@ fn a_no_is_an_answer(rt: HostRuntime) -> Result<(), Fail> {
             "at {words}"
         );
     }
+    Ok(())
+}
+
+#[test]
+fn a_line_that_is_not_understood_is_a_note(rt: HostRuntime) -> Result<(), Fail> {
+    let ran = run(rt.alloc(), "replay cut all", 0)?;
+    let answer = "1 getpid() allow\n1 line is not understood\n".as_bytes();
+    let note = "ask: cut: line 2 is not understood\n".as_bytes();
+    assert_eq!(rt;
+        (ran.status, ran.out.as_slice(), ran.complaints.as_slice()),
+        (1, answer, note)
+    );
     Ok(())
 }
 
@@ -380,7 +388,7 @@ fn all_calls(rt: HostRuntime) -> Result<(), Fail> {
 
 #[test]
 fn help_is_an_answer(rt: HostRuntime) -> Result<(), Fail> {
-    let rows: [(&str, &[u8]); 10] = [
+    let rows: [(&str, &[u8]); 11] = [
         ("--help", b"usage: ask WORD ..\n"),
         ("calls --help", b"usage: ask calls "),
         ("filter all --help", b"usage: ask filter "),
@@ -388,6 +396,7 @@ fn help_is_an_answer(rt: HostRuntime) -> Result<(), Fail> {
         ("diff --help all", b"usage: ask diff "),
         ("lint --help", b"usage: ask lint "),
         ("replay --help", b"usage: ask replay "),
+        ("allow --help", b"usage: ask allow "),
         ("why mseal2 --help", b"usage: ask why "),
         ("show --help two", b"usage: ask show "),
         ("arches --help", b"usage: ask arches "),

@@ -1,6 +1,6 @@
 //! A small document of a replay and one of a path, from a log and a filter.
 use sk_asm::assemble;
-use sk_document::{replay_document, why_document};
+use sk_document::{Decider, Decision, replay_document, why_document};
 use sk_filter::{Chain, check};
 use sk_insn::Record;
 use sk_names::Architecture;
@@ -18,8 +18,8 @@ const LOG: &[u8] =
 const REPLAY: &str =
     "{\"word\":\"replay\",\"architecture\":\"x86-64\",\"denies\":true,\"rows\":[{\"times\":2,\"number\":110,\"name\":\"getppid\",\
     \"args\":[],\"performed\":false,\"verdict\":{\"value\":327681,\"action\":\"errno\",\"data\":1,\"text\":\"errno/1 EPERM\"},\
-    \"text\":\"getppid()\"},{\"times\":1,\"number\":0,\"name\":\"read\",\"args\":[\"0x3\",\"0x0\",\"0x10\"],\"performed\":true,\
-    \"verdict\":{\"value\":2147418112,\"action\":\"allow\",\"data\":0,\"text\":\"allow\"},\"text\":\"read(0x3, 0, 0x10)\"}],\
+    \"undecided_by\":null,\"text\":\"getppid()\"},{\"times\":1,\"number\":0,\"name\":\"read\",\"args\":[\"0x3\",\"0x0\",\"0x10\"],\"performed\":true,\
+    \"verdict\":{\"value\":2147418112,\"action\":\"allow\",\"data\":0,\"text\":\"allow\"},\"undecided_by\":null,\"text\":\"read(0x3, 0, 0x10)\"}],\
     \"no_calls\":1,\"not_understood\":1}\n";
 
 const WHY: &str =
@@ -30,7 +30,21 @@ const WHY: &str =
     \"text\":\"jeq 110 +0 +1\",\"code\":21,\"jt\":0,\"jf\":1,\"k\":110,\"a\":39,\"x\":0,\"next\":3},{\"instruction\":3,\
     \"text\":\"ret 0x7fff0000\",\"code\":6,\"jt\":0,\"jf\":0,\"k\":2147418112,\"a\":39,\"x\":0,\"next\":null}],\
     \"verdict\":{\"value\":2147418112,\"action\":\"allow\",\"data\":0,\"text\":\"allow\"}}],\
-    \"verdict\":{\"value\":2147418112,\"action\":\"allow\",\"data\":0,\"text\":\"allow\"},\"source\":{\"filter\":0,\"instruction\":3}}\n";
+    \"verdict\":{\"value\":2147418112,\"action\":\"allow\",\"data\":0,\"text\":\"allow\"},\"source\":{\"filter\":0,\"instruction\":3},\
+    \"entries\":[{\"file\":\"a\\\"b\",\"kind\":\"profile\",\"by\":\"entry\",\"entry\":2,\"line\":null},\
+    {\"file\":\"c\",\"kind\":\"policy\",\"by\":\"others\",\"entry\":null,\"line\":null}]}\n";
+
+/// What is told of two files that the filter may stand for.
+const DECISIONS: &[Decision<'static>] = &[
+    Decision {
+        file: "a\"b",
+        decider: Decider::Entry(2),
+    },
+    Decision {
+        file: "c",
+        decider: Decider::Others(None),
+    },
+];
 
 /// The chain of that filter.
 fn chain(alloc: Global) -> Result<Chain, Fail> {
@@ -59,7 +73,7 @@ fn path_of_a_call(rt: HostRuntime) -> Result<(), Fail> {
     let alloc = rt.alloc();
     let chain = chain(alloc)?;
     let call = Record::native(39, 0, [0; 6]);
-    let text = why_document(alloc, Architecture::X86_64, &chain, &call)?;
+    let text = why_document(alloc, Architecture::X86_64, &chain, &call, DECISIONS)?;
     assert_eq!(rt; str::from_utf8(&text)?, WHY);
     Ok(())
 }

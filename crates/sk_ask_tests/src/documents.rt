@@ -42,12 +42,12 @@ const DOCUMENTS: &[(&str, u8, &str)] = &[
     (
         "replay --json log all getpid",
         1,
-        "{\"word\":\"replay\",\"architecture\":\"x86-64\",\"denies\":true,\"rows\":[{\"times\":2,\"number\":0,\"name\":\"read\",\"args\":[\"0x3\",\"0x7ffd\",\"0x40\"],\"performed\":true,\"verdict\":{\"value\":2147418112,\"action\":\"allow\",\"data\":0,\"text\":\"allow\"},\"text\":\"read(0x3, 0x7ffd, 0x40)\"},{\"times\":1,\"number\":39,\"name\":\"getpid\",\"args\":[],\"performed\":false,\"verdict\":{\"value\":327681,\"action\":\"errno\",\"data\":1,\"text\":\"errno/1 EPERM\"},\"text\":\"getpid()\"}],\"no_calls\":1,\"not_understood\":0}\n",
+        "{\"word\":\"replay\",\"architecture\":\"x86-64\",\"denies\":true,\"rows\":[{\"times\":2,\"number\":0,\"name\":\"read\",\"args\":[\"0x3\",\"0x7ffd\",\"0x40\"],\"performed\":true,\"verdict\":{\"value\":2147418112,\"action\":\"allow\",\"data\":0,\"text\":\"allow\"},\"undecided_by\":null,\"text\":\"read(0x3, 0x7ffd, 0x40)\"},{\"times\":1,\"number\":39,\"name\":\"getpid\",\"args\":[],\"performed\":false,\"verdict\":{\"value\":327681,\"action\":\"errno\",\"data\":1,\"text\":\"errno/1 EPERM\"},\"undecided_by\":null,\"text\":\"getpid()\"}],\"no_calls\":1,\"not_understood\":0}\n",
     ),
     (
         "why --json getppid() all",
         0,
-        "{\"word\":\"why\",\"architecture\":\"x86-64\",\"call\":{\"number\":110,\"name\":\"getppid\",\"args\":[\"0x0\",\"0x0\",\"0x0\",\"0x0\",\"0x0\",\"0x0\"],\"ip\":\"0x0\",\"record\":\"6e0000003e0000c00000000000000000000000000000000000000000000000000000000000000000000000000000000000000000000000000000000000000000\",\"text\":\"syscall(SYS_getppid, 0x0, 0x0, 0x0, 0x0, 0x0, 0x0)\"},\"filters\":[{\"filter\":0,\"steps\":[{\"instruction\":0,\"text\":\"ret 0x7fff0000\",\"code\":6,\"jt\":0,\"jf\":0,\"k\":2147418112,\"a\":0,\"x\":0,\"next\":null}],\"verdict\":{\"value\":2147418112,\"action\":\"allow\",\"data\":0,\"text\":\"allow\"}}],\"verdict\":{\"value\":2147418112,\"action\":\"allow\",\"data\":0,\"text\":\"allow\"},\"source\":{\"filter\":0,\"instruction\":0}}\n",
+        "{\"word\":\"why\",\"architecture\":\"x86-64\",\"call\":{\"number\":110,\"name\":\"getppid\",\"args\":[\"0x0\",\"0x0\",\"0x0\",\"0x0\",\"0x0\",\"0x0\"],\"ip\":\"0x0\",\"record\":\"6e0000003e0000c00000000000000000000000000000000000000000000000000000000000000000000000000000000000000000000000000000000000000000\",\"text\":\"syscall(SYS_getppid, 0x0, 0x0, 0x0, 0x0, 0x0, 0x0)\"},\"filters\":[{\"filter\":0,\"steps\":[{\"instruction\":0,\"text\":\"ret 0x7fff0000\",\"code\":6,\"jt\":0,\"jf\":0,\"k\":2147418112,\"a\":0,\"x\":0,\"next\":null}],\"verdict\":{\"value\":2147418112,\"action\":\"allow\",\"data\":0,\"text\":\"allow\"}}],\"verdict\":{\"value\":2147418112,\"action\":\"allow\",\"data\":0,\"text\":\"allow\"},\"source\":{\"filter\":0,\"instruction\":0},\"entries\":[]}\n",
     ),
     (
         "arches --json all",

@@ -57,6 +57,10 @@ const FILES: &[(&str, &[u8])] = &[
     ("empty", b""),
     ("wanted", b"read: performed\n"),
     (
+        "rows",
+        b"default allow\nothers errno/38\n\nread\n  errno/1 where args[0] == 3\n  allow else\ngettid, getpid,\n  getppid: errno/1\n",
+    ),
+    (
         "sixteen",
         b"filter 060000000000ff7f\nfilter 060000000000ff7f\nfilter 060000000000ff7f\nfilter 060000000000ff7f\nfilter 060000000000ff7f\nfilter 060000000000ff7f\nfilter 060000000000ff7f\nfilter 060000000000ff7f\nfilter 060000000000ff7f\nfilter 060000000000ff7f\nfilter 060000000000ff7f\nfilter 060000000000ff7f\nfilter 060000000000ff7f\nfilter 060000000000ff7f\nfilter 060000000000ff7f\nfilter 060000000000ff7f",
     ),

@@ -1,13 +1,17 @@
 //! Worked examples of `ask`: its words and texts over files and writers in memory, which fail where they are told to, the
 //! forms of files, what profiles and policies are made into or refused for, the text that `ask when` makes of small filters, how two of them
-//! differ, what `ask lint` tells of them, what the replay of a log says of its calls, the texts of verdicts, names, arguments
+//! differ, what `ask lint` tells of them, what the replay of a log says of its calls, the least policies of logs, the texts of verdicts, names, arguments
 //! and constants.
 #![tactic(auto)]
 
 #[cfg(test)]
+mod allows;
+#[cfg(test)]
 mod answers;
 #[cfg(test)]
 mod arguments;
+#[cfg(test)]
+mod deciders;
 #[cfg(test)]
 mod differences;
 #[cfg(test)]
@@ -28,6 +32,8 @@ mod lints;
 mod made;
 #[cfg(test)]
 mod names;
+#[cfg(test)]
+mod pages;
 #[cfg(test)]
 mod partings;
 #[cfg(test)]

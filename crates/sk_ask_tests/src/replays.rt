@@ -1,4 +1,4 @@
-//! Logs of strace(1), each with the text and the sums of its replay through one filter.
+//! Logs of strace(1) and of the kernel, each with the text and the sums of its replay through one filter.
 use crate::whens::chain_of;
 use sk_names::Architecture;
 use sk_replay::{replay, replay_text};
@@ -7,7 +7,7 @@ use std::test::Fail;
 /// A filter that answers EPERM to read, whose number is 0, and allows every other call.
 const NO_READ: &[u8] = b"ldabs 0\njeq 0 +0 +1\nret errno/1\nret allow";
 
-/// The architecture of a process, its log as strace(1) writes it, what the filter answers, whether that is a no, and how many
+/// The architecture of a process, its log, what the filter answers, whether that is a no, and how many
 /// calls there are.
 const LOGS: &[(Architecture, &[u8], &str, bool, usize)] = &[
     (Architecture::X86_64, b"", "", false, 0),
@@ -21,7 +21,7 @@ const LOGS: &[(Architecture, &[u8], &str, bool, usize)] = &[
     (
         Architecture::X86_64,
         b"7 getpid() = 0x7\n7 read(0x3, 0x7ffd, 0x40 <unfinished ...>\n7 <... read resumed>) = 0\n7 getpid() = 0x7\n",
-        "1 read(0x3, 0x7ffd, 0x40) errno/1 EPERM\n2 getpid() allow\n1 line is no call\n",
+        "1 read(0x3, 0x7ffd, 0x40, ?, ?, ?) errno/1 EPERM\n2 getpid() allow\n1 line is no call\n",
         true,
         2,
     ),
@@ -42,9 +42,9 @@ const LOGS: &[(Architecture, &[u8], &str, bool, usize)] = &[
     (
         Architecture::X86_64,
         b"9 no_such_call(0x1) = 0\n9 close(3) = 0\n9 close(0x3\n",
-        "3 lines are not understood\n",
+        "1 close(0x3) allow\n2 lines are not understood\n",
         true,
-        0,
+        1,
     ),
     (
         Architecture::X86_64,
@@ -52,6 +52,41 @@ const LOGS: &[(Architecture, &[u8], &str, bool, usize)] = &[
         "1 line is not understood\n",
         true,
         0,
+    ),
+    (
+        Architecture::I386,
+        b"[ Process PID=9 runs in 32 bit mode. ]\n",
+        "1 line is no call\n",
+        false,
+        0,
+    ),
+    (
+        Architecture::X86_64,
+        b"[ 8.5] audit: type=1326 audit(1796.2:3): pid=9 comm=\"x\" sig=31 arch=c000003e syscall=0 compat=0 ip=0x7f code=0x50000\n",
+        "1 read(?, ?, ?, ?, ?, ?) errno/1 EPERM\n",
+        true,
+        1,
+    ),
+    (
+        Architecture::X86_64,
+        b"type=SECCOMP msg=audit(1796.2:3): pid=9 arch=40000003 syscall=3 compat=1 ip=0x7f code=0x0\n",
+        "1 line is not understood\n",
+        true,
+        0,
+    ),
+    (
+        Architecture::X86_64,
+        b"9 capset({pid=0}, {effective=1<<CAP_KILL, inheritable=0}) = 0\n",
+        "1 capset(?, ?) allow\n",
+        false,
+        1,
+    ),
+    (
+        Architecture::X86_64,
+        b"9 write(1</dev/pts/0<char 136:0>>, \"a, b) = \\\"\"..., 7)         = 7\n9 exit_group(0) = ?\n",
+        "1 write(0x1, ?, 0x7) allow\n1 exit_group(0) allow\n",
+        false,
+        2,
     ),
     (
         Architecture::I386,
