@@ -151,7 +151,7 @@ FILES = {
     "chain": line(LONG) * 9,
     "trap": insn(0x06, k=0x00030005).hex().encode(),
     "kill": insn(0x06, k=0x80000000).hex().encode(),
-    "argument": insn(0x20, k=16) + insn(0x16),
+    "argument": insn(0x20, k=16) + insn(0x16), "second": insn(0x20, k=24) + insn(0x16),
     "every_word": b"".join(insn(0x20, k=place) for place in range(0, 64, 4)) + ALLOW,
     # i386 gets errno 1, every other architecture what is allowed.
     "i386": insn(0x20, k=4) + insn(0x15, 0, 1, 0x40000003) + insn(0x06, k=0x00050001) + ALLOW,
@@ -161,6 +161,10 @@ FILES = {
     "log_cut": b"7 getpid() = 0x7\n7 read(0x3, 0x7f",
     "log_crlf": b"7 getpid() = 0x7\r\n",
     "log_ends": b"7 +++ exited with 0 +++\n",
+    "log_of_kernel": b'[ 8.5] audit: type=1326 audit(1796.2:3): auid=0 pid=9 comm="x" exe="/bin/x" sig=31 arch=c000003e syscall=39 compat=0 ip=0x7f code=0x50001\n'
+                     b'type=SECCOMP msg=audit(1796.2:4): auid=0 pid=9 comm=6120622063 sig=0 arch=c000003e syscall=0 compat=0 ip=0x7f code=0x7ffc0000\n',
+    "log_of_i386": b'type=1326 audit(1796.2:3): pid=9 arch=40000003 syscall=20 compat=1 ip=0x7f code=0x0\n9 getpid() = 9\n',
+    "log_of_modes": b'[ Process PID=9 runs in 32 bit mode. ]\n9 getpid() = 9\n',
     "log_decoded": b'7 read(3, "ab", 64) = 2\n7 close(3) = 0\n',
     "expected": b"getpid: errno/EPERM\nread, socket: performed\n",
     "expected_case": b"# What is to stay.\nread\n  refused where args[0] == 1\n",
@@ -231,7 +235,7 @@ class Row(NamedTuple):
 
 GOT = "39 getpid errno/1 EPERM\n"
 LINE = line(GETPID).decode()
-NO_CALL = "holds no call: expected lines as strace -f -X raw -e raw=all writes them"
+NO_CALL = "holds no call: expected lines as strace -f writes them, or the kernel's with type=1326"
 NO_FILTER = "holds no filter: expected bytes of struct sock_filter, hexadecimal digits, lines filter HEX, another form of a filter, a policy, or a profile in JSON"
 
 
@@ -260,12 +264,12 @@ def flag_path(low, outcome, end, value, verdict):
 # The names that may be meant: calls of x86-64 by their numbers, words, and the options of each word, those of several words first.
 with open(f"{ROOT}/docs/ask.bash", encoding="ascii") as completion:
     CALLS = completion.read().split("_ask_calls='")[1].split("'")[0].split()
-WORDS_OF_ASK = ["calls", "filter", "when", "diff", "expect", "lint", "replay", "why", "show", "arches", "check"]
+WORDS_OF_ASK = ["calls", "filter", "when", "diff", "expect", "lint", "replay", "allow", "why", "show", "arches", "check", "page"]
 OPTIONS = {
-    "--help": WORDS_OF_ASK, "--arch": [it for it in WORDS_OF_ASK if it not in ("filter", "lint", "arches")],
+    "--help": WORDS_OF_ASK, "--arch": [it for it in WORDS_OF_ASK if it not in ("filter", "lint", "arches", "page")],
     **{it: WORDS_OF_ASK for it in ("--cap", "--kernel", "--machine", "--native", "--runc", "--strict")},
-    "--numbers": ["when", "diff", "expect", "lint"], "--json": [it for it in WORDS_OF_ASK if it not in ("filter", "show", "check")], "--call": ["calls", "when"], "--only": ["calls", "when"], "--examples": ["calls"], "--to": ["filter"],
-    "--raw": ["filter"], "--smaller": ["filter"], "--dot": ["when"], "--stricter": ["diff"], "--all": ["lint"],
+    "--numbers": ["when", "diff", "expect", "lint", "page"], "--json": [it for it in WORDS_OF_ASK if it not in ("filter", "allow", "show", "check", "page")], "--call": ["calls", "when"], "--only": ["calls", "when"], "--examples": ["calls"], "--to": ["filter"],
+    "--raw": ["filter"], "--smaller": ["filter"], "--dot": ["when"], "--stricter": ["diff"], "--all": ["lint"], "--old": ["page"],
 }
 # Capabilities by their numbers, architectures, and machines whose programs profiles are for.
 with open("/usr/include/linux/capability.h", encoding="ascii") as header:
@@ -291,7 +295,7 @@ def edits(one, other):
 
 
 def meant(command, complaint):
-    """The question behind a complaint of an unknown name, of calls one of x86-64: docs/FORMATS.md."""
+    """The question behind a complaint of an unknown name, of calls one of x86-64, or else where names stand: docs/FORMATS.md."""
     unknown = UNKNOWN.fullmatch(complaint)
     if not unknown or unknown[2] == "call" and re.search("--arch[ =](?!x86-64|x86_64|amd64)", command):
         return ""
@@ -299,10 +303,11 @@ def meant(command, complaint):
     names = {"call": CALLS, "word": WORDS_OF_ASK, "option": [it for it, words in OPTIONS.items() if word in words],
              "capability": CAPABILITIES, "architecture": NAMED_ARCHITECTURES, "machine": NAMED_MACHINES}[kind]
     sought = {"call": re.sub("^(SYS_|__NR_)", "", name), "option": name.partition("=")[0], "capability": name.upper()}.get(kind, name)
+    elsewhere = {"call": "", "option": f"; see ask {word} --help", "capability": "; see capabilities(7)"}.get(kind, "; see ask --help")
     if kind == "option" and sought in OPTIONS and word not in OPTIONS[sought]:
-        return ""
+        return elsewhere
     near = min(names, key=lambda it: edits(sought, it))
-    return f": did you mean {near}?" if len(sought) <= 64 and edits(sought, near) <= (len(sought) + 2) // 4 else ""
+    return f": did you mean {near}?" if len(sought) <= 64 and edits(sought, near) <= (len(sought) + 2) // 4 else elsewhere
 
 
 def trouble(command, complaint):
@@ -403,7 +408,7 @@ ARCHITECTURES = [
     good("ask show --arch i386 raw | sed -n 3p", "; 1 mkdir\n"), good("ask show --arch aarch64 raw | sed -n 3p", "; 1 umount2\n"),
     Row("ask replay --arch i386 log_i386 i386", 1, "", "1 getuid32() errno/1 EPERM\n1 socketcall(0x1, 0x7ffd) errno/1 EPERM\n1 syscall_0x1388(0x1) errno/1 EPERM\n"),
     good("ask replay --arch i386 log_i386 all | head -n 1", "1 getuid32() allow\n"),
-    Row("ask replay log_i386 all", 1, "", "1 syscall_0x1388(0x1) allow\n2 lines are not understood\n"),
+    Row("ask replay log_i386 all", 1, "ask: log_i386: line 1 is not understood\nask: log_i386: line 2 is not understood\n", "1 syscall_0x1388(0x1) allow\n2 lines are not understood\n"),
     *[good(f"ask show {asked} of_two | grep '^; [578]'", "; 5 execve\n; 7 execve\n; 8\n") for asked in ("", "--arch aarch64", "--arch s390x")],
     Row("ask calls --arch s390x --call getpid turned", 0, TURNED_READ, "20 getpid errno/1 EPERM\n"),
     Row("ask show --arch s390x turned | sed -n 3p", 0, TURNED_READ, "; 1 getpid\n"),
@@ -512,7 +517,7 @@ PROFILES = [
         ("--machine aarch64 --arch arm --runc", "983046", "profile_arm", "983046 get_tls errno/38 ENOSYS\n"))],
     Row("ask calls --native --arch i386 --call getpid profile_i386", 0, f"ask: profile_i386: {OTHERS}\n", "20 getpid kill_thread\n"),
     Row("ask filter --native profile_i386 profile_x32 | wc -l", 0, f"ask: profile_i386: {OTHERS}\nask: profile_x32: {OTHERS}\n", "2\n"),
-    *[good(f"ask why --arch i386 'ipc({given})' profile_ipc | tail -n 1 | cut -d' ' -f 1,2", told) for given, told in (
+    *[good(f"ask why --arch i386 'ipc({given})' profile_ipc | tail -n 2 | head -n 1 | cut -d' ' -f 1,2", told) for given, told in (
         ("2", "allow by\n"), ("0x10002", "allow by\n"), ("3", "errno/1 EPERM\n"), ("1, 1", "errno/1 EPERM\n"))],
     trouble("ask calls profile_several", "profile_several: entries 1 and 2 of syscalls clash: both fit ipc(0x2, 0x7, 0x0, 0x0, 0x0, 0x0) of i386, "
             "and they say different things"),
@@ -530,7 +535,7 @@ PROFILES = [
     good("ask filter --raw profile | ask diff profile -", "the same on every call\n"), good("ask show profile | head -n 1", "; 0 arch\n"),
     Row("ask diff profile raw | head -n 2", 1, "", "looser:\n0 read: log -> allow\n"), good("ask filter profile raw profile | grep -c '^filter '", "3\n"),
     good("ask calls --call getpid profile all", GOT), good("ask calls --call getpid all profile", GOT),
-    good("ask why getpid profile | tail -n 1 | cut -d' ' -f 1,2", "errno/1 EPERM\n"), good("ask when --call getpid profile", GOT),
+    good("ask why getpid profile | tail -n 2 | head -n 1 | cut -d' ' -f 1,2", "errno/1 EPERM\n"), good("ask when --call getpid profile", GOT),
     Row("ask replay log profile | head -n 1", 1, "", "1 getpid() errno/1 EPERM\n"), good("ask when --dot --call getpid profile", GETPID_DRAWN),
     good("ask calls --cap all --kernel 6.1 --call getpid raw", GOT), good("ask why --cap docker --kernel 6.1 getpid raw", GETPID_PATH),
     *[Row(f"ask {asking} profile_noted", 0, NOTE, answer) for asking, answer in (("calls --call getpid", GOT), ("when --call getpid", GOT))],
@@ -577,11 +582,30 @@ GOOD = [
     good("mkfifo fifo; cat log > fifo & timeout 20 ask replay fifo - < all | tail -n 1", "1 line is no call\n"),
     Row("ask replay log raw", 1, "", "1 getpid() errno/1 EPERM\n2 read(0x3, 0x7ffd, 0x40) allow\n1 line is no call\n"),
     Row("ask replay log all raw | head -n 1", 1, "", "1 getpid() errno/1 EPERM\n"),
-    Row("ask replay log_cut all", 1, "", "1 getpid() allow\n1 line is not understood\n"),
+    Row("ask replay log_cut all", 1, "ask: log_cut: line 2 is not understood\n", "1 getpid() allow\n1 line is not understood\n"),
+    good("ask replay log_decoded all", "1 read(0x3, ?, 0x40) allow\n1 close(0x3) allow\n"),
+    Row("ask replay log_decoded second | head -n 1", 1, "", "1 read(0x3, ?, 0x40) depends on args[1], which the log does not show\n"),
     good("ask replay log_crlf all", "1 getpid() allow\n"),
+    Row("ask replay log_of_kernel raw", 1, "", "1 getpid(?, ?, ?, ?, ?, ?) errno/1 EPERM\n1 read(?, ?, ?, ?, ?, ?) allow\n"),
+    good("ask allow log_of_kernel", "default errno/1 EPERM\n0 read allow\n39 getpid allow\n"),
+    Row("ask replay log_of_i386 all", 1, "ask: log_of_i386: line 1 is not understood\n", "1 getpid() allow\n1 line is not understood\n"),
+    Row("ask allow log_of_i386", 1, "ask: log_of_i386: 1 line is not understood\n", "default errno/1 EPERM\n39 getpid allow\n"),
+    good("ask replay --arch i386 log_of_i386 all", "1 getpid(?, ?, ?, ?, ?, ?) allow\n1 getpid() allow\n"),
+    Row("ask replay log_of_modes all", 1, "ask: log_of_modes: line 1 is not understood\n", "1 getpid() allow\n1 line is not understood\n"),
+    good("ask replay --arch i386 log_of_modes all", "1 getpid() allow\n1 line is no call\n"),
     *[good(f"ask why '{call}' raw", GETPID_PATH) for call in ("getpid", "getpid()", "39", "0x27( )", "getpid(1, -1, 0xff)", " getpid ( 1 ) ")],
     good("ask why getpid - < raw", GETPID_PATH), good("ask why getpid <(cat lines)", GETPID_PATH), good("cat raw | ask why getpid /dev/stdin", GETPID_PATH),
     good("ask why getpid all raw", "filter 1\n" + GETPID_STEPS + "filter 0\n" + step(0, "ret 0x7fff0000", 0) + "  allow\nerrno/1 EPERM by filter 1 at 2\n"),
+    *[good(f"ask why {asking} | tail -n 1", f"{told}\n") for asking, told in (
+        ("getpid profile_i386", "profile_i386: entry 1 of syscalls decides"), ("read profile_i386", "profile_i386: no entry of syscalls says otherwise than the default"),
+        ("--arch i386 chown32 profile_i386", "profile_i386: entry 2 of syscalls decides"),
+        ("--arch x32 getpid profile_i386", "profile_i386: the profile is not for this architecture"),
+        ("--machine x86-64 --arch aarch64 getpid profile_i386", "profile_i386: the profile is not for this architecture"),
+        ("--runc 1000 profile_runc", "profile_runc: runc's own instructions decide, which know no such call"),
+        ("getpid policy_of_code", "policy_of_code: line 7 decides"), ("read policy_of_code", "policy_of_code: default in line 5 decides"),
+        ("--arch i386 read policy_of_code", "policy_of_code: others in line 6 decides"), ("getpid marked_policy", "marked_policy: line 3 decides"),
+        ("getpid profile_i386 raw", "profile_i386: entry 1 of syscalls decides"), ("getpid raw policy_of_code raw", "policy_of_code: line 7 decides"))],
+    good("ask why getpid policy_of_code profile_i386 | tail -n 2", "policy_of_code: line 7 decides\nprofile_i386: entry 1 of syscalls decides\n"),
     good("ask why 'read(1)' flag", flag_path(1, "!=", 2, "0x00050026", "errno/38 ENOSYS")),
     good("ask why 'read(-1)' flag", flag_path(4294967295, "!=", 2, "0x00050026", "errno/38 ENOSYS")),
     good("ask why 'read(18446744073709551615)' flag", flag_path(4294967295, "!=", 2, "0x00050026", "errno/38 ENOSYS")),
@@ -611,6 +635,10 @@ GOOD = [
     good("ask why 'open(\"a, b)|\", O_RDONLY)' wide | tail -n 1", "allow by filter 0 at 7\n"),
     good("ask when --call socket narrow", "41 socket\n  errno/22 EINVAL where (args[0] & 0xffffffff) == AF_NETLINK\n  allow else\n"),
     good("ask when --numbers --call socket narrow", "41 socket\n  errno/22 EINVAL where (args[0] & 0xffffffff) == 0x10\n  allow else\n"),
+    good("ask page --help | head -n 2", "usage: ask page [--numbers] FILE..\n       ask page [--numbers] --old OLD NEW\n"),
+    *[good(f"ask page {words} | grep -c '<h1>ask page: {title}</h1>'", "1\n") for words, title in (
+        ("raw", "raw"), ("raw all", "raw, all"), ("--old raw all", "raw to all"), ("all --old raw", "raw to all"), ("--old=raw all", "raw to all"),
+        ("--numbers wide", "wide"))],
     good("ask lint --help | head -n 1", "usage: ask lint [--all] [--numbers] [--json] FILE..\n"),
     good("ask diff --help | head -n 1", "usage: ask diff [--stricter] [--numbers] [--json] [--arch ARCH] OLD NEW\n"),
     good("ask --help | head -n 1", "usage: ask WORD ..\n"), good("ask calls --help | head -n 1", "usage: ask calls [--call CALL] [--only VERDICT] [--examples] [--json] [--arch ARCH] FILE..\n"),
@@ -683,6 +711,10 @@ WORDS = [
     trouble("ask why -- -1 raw", "no call is named -1"), trouble("ask diff -- raw", "diff: expected two FILEs, OLD and NEW"),
     trouble("ask calls raw --call --", "no call is named --"), trouble("ask calls raw --cap --", "calls: no capability is named --"),
     trouble("ask arches", "arches: no FILE is given"), trouble("ask arches --call read raw", "arches: no option is named --call"),
+    trouble("ask page", "page: no FILE is given"), trouble("ask page --old raw", "page: expected two FILEs, OLD and NEW"),
+    trouble("ask page --old raw all all", "page: expected two FILEs, OLD and NEW"), trouble("ask page raw --old", "page: expected a FILE behind --old"),
+    trouble("ask page --old raw --old all all", "page: given twice: --old"), trouble("ask page nofile", "nofile: no such file"),
+    *[trouble(f"ask page {it} raw", f"page: no option is named {it}") for it in ("--json", "--arch", "--call", "--stricter", "--all")],
     trouble("ask show", "show: no FILE is given"), trouble("ask show --raw raw", "show: no option is named --raw"),
     trouble("ask show --call read raw", "show: no option is named --call"), trouble("ask show raw -x", "show: no option is named -x"),
     trouble("ask why", "why: no CALL is given"), trouble("ask why getpid", "why: no FILE is given"), trouble("ask why raw", "why: no FILE is given"),
@@ -695,7 +727,7 @@ WORDS = [
     *[trouble(f"ask why '{call}' nofile", UNCLOSED) for call in ("read(", "read(1", "read(1) = 3", "read(1))", "read(1,2,3,4,5,6,7")],
     *[trouble(f"ask why '{call}' nofile", TOO_MANY) for call in ("read(1,2,3,4,5,6,7)", "read(,,,,,,)", "read(x,2,3,4,5,6,7)")],
     *[trouble(f"ask why '{call}' nofile", wrong(number, part)) for call, number, part in (
-        ("read(010)", 1, "010"), ("read(1, 010)", 2, "010"), ("read(18446744073709551616)", 1, "18446744073709551616"),
+        ("read(08)", 1, "08"), ("read(1, 08)", 2, "08"), ("read(18446744073709551616)", 1, "18446744073709551616"),
         ("read(0x10000000000000000)", 1, "0x10000000000000000"), ("read(-9223372036854775809)", 1, "-9223372036854775809"),
         ("read(1,)", 2, ""), ("read(,1)", 1, ""), ("read(1,2,3,4,5,)", 6, ""), ("read(1 2)", 1, "1 2"), ("read(+1)", 1, "+1"), ("read(1e3)", 1, "1e3"),
         ("read((1)", 1, "(1"), ("socket(AF_NETLINC, 1)", 1, "AF_NETLINC"), ("socket(1, SOCK_RAW|SOCK_CLOXEC)", 2, "SOCK_CLOXEC"), ("read(1|)", 1, ""),
@@ -857,7 +889,7 @@ LOGS = [
     ("\"$(printf 'a\\nb')\" all", "a?b: no such file"), ("- all <&-", "-: reading failed"), ("- all < folder", "-: reading failed"),
     ("- - < log", f"-: {NO_FILTER}"), ("- all < empty", f"-: {NO_CALL}"), ("<(cat empty) all", f"/dev/fd/63: {NO_CALL}"),
     ("/dev/zero all", "/dev/zero: has more than 268435456 bytes"), ("all log", f"log: line 1: {NO_NAME}"), ("empty empty", f"empty: {NO_FILTER}"),
-    *[(f"{name} all", f"{name}: {NO_CALL}") for name in ("profile", "empty", "/dev/null", "log_ends", "log_decoded", "raw", "lines", "mib_and_one", "chain")],
+    *[(f"{name} all", f"{name}: {NO_CALL}") for name in ("profile", "empty", "/dev/null", "log_ends", "raw", "lines", "mib_and_one", "chain")],
 ]
 REFUSED = [
     *[trouble(f"ask replay {names}", says) for names, says in LOGS],

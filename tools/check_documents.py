@@ -1,7 +1,7 @@
 #!/usr/bin/env python3
-"""Checks what no prover sees: that the repository stands alone, that each path and command that its
-documents name is there, and that each example in them prints what they say, in the repository and in the archive that
-tools/package makes of it.
+"""Checks what no prover sees: that the repository stands alone, that the page of promises is that of the contracts, that each
+path and command that its documents name is there, that their sentences are short, and that each example in them prints what
+they say, in the repository and in the archive that tools/package makes of it.
 
 check_documents.py [FOLDER PAGE ..]: with a folder, only runs the commands of these pages, in the folder, and looks at what
 they print. Prints each problem, and at last 'N passed, M failed'."""
@@ -23,6 +23,10 @@ COMMANDS = {"run", "check", "eval", "asm", "list"}
 CITED = re.compile(r"\b(T[1-5]|D([1-9]|1[0-9]|2[01])|W([1-9]|1[0-9]|2[0-7])|R([1-9]|1[0-6])|row [0-9]+)\b|[Dd]ocument 0[0-9]|0[1-4]-(scope|theorems|requests|tables)")
 MACHINE = re.compile(r"(^|[\s'\"`(=])/(work|opt|root|home|tmp)/")
 PATH = re.compile(r"^[A-Za-z0-9_.-]+(/[A-Za-z0-9_.-]+)+/?$|^[A-Za-z0-9_-]+\.(md|txt|rt|antt|sh|py|hex|scenario|asm|bpf|1)$")
+# The most words that a sentence has, and that those of a page have on an average.
+LONGEST, AVERAGE = 35, 20
+# What was said of what has changed.
+NOT_MEASURED = {"CHANGELOG.md"}
 results = {"passed": 0, "failed": 0}
 judging = threading.Lock()
 
@@ -46,7 +50,7 @@ def tracked():
 
 def citations(paths):
     for path in paths:
-        if os.path.basename(path) == os.path.basename(__file__):
+        if os.path.basename(path) == os.path.basename(__file__) or path.endswith(".png"):
             continue
         for number, line in enumerate(read(path).splitlines(), 1):
             if CITED.search(line):
@@ -57,8 +61,41 @@ def citations(paths):
 
 def is_there(path, paths):
     """A document may leave out the folders that it speaks of."""
-    wanted = path.removeprefix("./").rstrip("/")
+    wanted = path.removeprefix("../").removeprefix("./").rstrip("/")
     return any(f"/{it}".endswith(f"/{wanted}") or f"/{wanted}/" in f"/{it}" for it in paths)
+
+
+def paragraphs(text):
+    """The paragraphs, items and cells of a page, without its blocks and headings."""
+    lines = []
+    for line in [*re.sub(r"^```.*?^```$", "", text, flags=re.M | re.S).splitlines(), ""]:
+        line = line.strip()
+        if lines and (not line or line.startswith(("#", "|")) or re.match(r"([-*]|\d+\.) ", line)):
+            yield " ".join(lines)
+            lines = []
+        if line.startswith("|"):
+            yield from re.split(r"(?<!\\)\|", line.strip("|"))
+        elif line and not line.startswith("#"):
+            lines.append(re.sub(r"^([-*]|\d+\.) ", "", line))
+
+
+def sentences(text):
+    """The sentences of a page, each as its words; what stands in backquotes is one word."""
+    for paragraph in paragraphs(text):
+        plain = re.sub(r"\[([^]]*)\]\([^)]*\)", r"\1", re.sub(r"`[^`]*`", "code", paragraph)).replace("**", "")
+        for sentence in re.split(r"(?<=[.!?]) +|(?<=[:;]) +(?=[A-Z(])", plain):
+            if words := [it for it in sentence.split() if re.search(r"\w", it)]:
+                yield words
+
+
+def long_sentences(document, text):
+    """Sentences that a reader has to read twice. Headings of columns and lists of names are none."""
+    told = [it for it in sentences(text) if len(it) > 3 and 2 * sum(word.startswith("code") for word in it) < len(it)]
+    for words in told:
+        if len(words) > LONGEST:
+            yield f"{document}: a sentence has {len(words)} words: {' '.join(words)[:160]}"
+    if told and sum(map(len, told)) > AVERAGE * len(told):
+        yield f"{document}: its sentences have more than {AVERAGE} words on an average"
 
 
 def paths_named(document, text, paths):
@@ -73,6 +110,13 @@ def words_named(document, text, known):
         for word in token.split("::"):
             if word not in known:
                 yield f"{document}: names {token}, and no crate has {word}"
+
+
+def promises_differ():
+    """What the page of promises says otherwise than the contracts."""
+    ran = subprocess.run(["tools/promises", "--check"], cwd=ROOT, capture_output=True, text=True)
+    if ran.returncode:
+        yield from (ran.stdout + ran.stderr).splitlines()
 
 
 def blocks(text, kind):
@@ -195,6 +239,8 @@ def check(document, paths):
     text = read(document)
     judge(list(paths_named(document, text, paths)), "paths")
     judge(list(commands_named(document, text)), "commands")
+    if document not in NOT_MEASURED:
+        judge(list(long_sentences(document, text)), "sentences")
     examples(document, text)
     commands_run(document, text, paths)
 
@@ -204,7 +250,8 @@ def check_all():
     paths = tracked()
     judge(list(citations(paths)), "the repository stands alone")
     known = {word for path in paths if path.startswith("crates") for word in re.findall(r"[A-Za-z_]\w*", read(path) + path)}
-    for document in ("README.md", "docs/PROVED.md", "docs/DEFINITIONS.md", "docs/MAP.md", "docs/DECISIONS.md"):
+    judge(list(promises_differ()), "promises")
+    for document in ("README.md", "docs/PROVED.md", "docs/MAP.md", "docs/SEMANTICS.md"):
         judge(list(words_named(document, read(document), known)), "names")
     documents = [path for path in paths if path.endswith(".md")]
     # Two side by side, and first those with commands: the prover's and the measurements take a minute each.

@@ -37,6 +37,7 @@ SIGNS = {0x10: ("!=", "=="), 0x20: ("<=", ">"), 0x30: ("<", ">="), 0x40: ("&", "
 COMPARED_NAME = re.compile(r"(?<=\d) [a-z_0-9]+(?=: to \d+\n)")
 LOG = os.path.join(ROOT, "examples/logs/true.strace")
 EXPECTATIONS = os.path.join(ROOT, "examples/policies/service.expect")
+SOURCES = [os.path.join(ROOT, it) for it in ("examples/profiles/service.json", "examples/policies/service.policy")]
 # What is trouble: words, and what stands on standard error.
 TROUBLE = [
     (["calls", "--json", "--json", "--call", "no_such_call"], "ask: no call is named no_such_call"),
@@ -129,8 +130,13 @@ def count_text(count: int, kind: str) -> str:
     return "" if count == 0 else f"1 line is {kind}\n" if count == 1 else f"{count} lines are {kind}\n"
 
 
+def judged_text(row: dict) -> str:
+    """The verdict on a call of a log, or the argument that it depends on."""
+    return f"depends on {row['undecided_by']}, which the log does not show" if row["verdict"] is None else row["verdict"]["text"]
+
+
 def replay_text(document: dict) -> str:
-    lines = {done: "".join(f"{it['times']} {it['text']} {it['verdict']['text']}\n" for it in document["rows"] if it["performed"] == done) for done in (False, True)}
+    lines = {done: "".join(f"{it['times']} {it['text']} {judged_text(it)}\n" for it in document["rows"] if it["performed"] == done) for done in (False, True)}
     no_calls = count_text(document["no_calls"], "no call").replace("are no call", "are no calls")
     return lines[False] + lines[True] + no_calls + count_text(document["not_understood"], "not understood")
 
@@ -156,10 +162,27 @@ def path_text(path: dict) -> str:
     return "".join(lines) + f"  {path['verdict']['text']}\n"
 
 
+def decision_text(it: dict) -> str:
+    match it["by"]:
+        case "entry":
+            said = f"entry {it['entry'] + 1} of syscalls decides"
+        case "no_entry":
+            said = "no entry of syscalls says otherwise than the default"
+        case "no_call":
+            said = "runc's own instructions decide, which know no such call"
+        case "foreign":
+            said = "the profile is not for this architecture"
+        case "row":
+            said = f"line {it['line']} decides"
+        case by:
+            said = f"{by} in line {it['line']} decides" if it["line"] is not None else "no line says what other architectures get"
+    return f"{it['file']}: {said}\n"
+
+
 def why_text(document: dict) -> str:
     source = document["source"]
     by = "" if source is None else f" by filter {source['filter']} at {source['instruction']}"
-    return "".join(map(path_text, document["filters"])) + f"{document['verdict']['text']}{by}\n"
+    return "".join(map(path_text, document["filters"])) + f"{document['verdict']['text']}{by}\n" + "".join(map(decision_text, document["entries"]))
 
 
 def text_of(document: dict, words: list[str]) -> str:
@@ -260,10 +283,13 @@ def questions(files: list[str]) -> list[list[str]]:
         found += [["replay", LOG, file], ["replay", "--arch", "i386", LOG, file]]
         found += [["why", it, file] for it in ("getpid", "clone(0x10000000)", "openat(AT_FDCWD, \"/etc\", O_RDONLY)", "socket(AF_NETLINK, 3, 9)", "1000")]
         found += [["why", "--arch", it, "read(3)", file] for it in ("i386", "aarch64")]
+    for source in SOURCES:
+        found += [["why", it, source] for it in ("read", "clone(0x10000000)", "socket(AF_NETLINK, 3, 9)", "openat(0, 0, 0)", "ptrace", "1000")]
+        found += [["why", "--arch", "i386", "read", source], ["why", "--runc", "1000", source]]
     for old, new in itertools.permutations(files, 2):
         found += [["diff", old, new], ["diff", "--stricter", "--numbers", old, new]]
     return [*found, ["diff", files[0], files[0]], ["diff", "--arch", "aarch64", files[0], files[-1]], ["when", *files], ["calls", *files], ["arches", *files],
-            ["replay", LOG, *files], ["why", "clone(0x10000000)", *files]]
+            ["replay", LOG, *files], ["why", "clone(0x10000000)", *files], ["why", "read", files[0], *SOURCES]]
 
 
 def main() -> int:

@@ -32,14 +32,16 @@ STORE = Path(os.environ.get("XDG_CACHE_HOME") or os.path.expanduser("~/.cache"))
 SUITE = "bookworm"
 BUILT = [f"crates/{it}" for it in ("ask/out/ask", "ask/out/built", "skern/out/skern", "skern/out/built", "libskern/out/liblibskern.a")]
 LIBRARIES, PAGES = "usr/lib/x86_64-linux-gnu", "usr/share/doc/skern"
+SCRIPTS = ("attach", "attached", "process-filters")
 WANTED = [
-    "usr/bin/ask", "usr/bin/skern", "usr/include/skern.h", f"{LIBRARIES}/libskern.a", f"{LIBRARIES}/libskern.so", f"{LIBRARIES}/pkgconfig/skern.pc",
+    "usr/bin/ask", "usr/bin/skern", *(f"usr/bin/skern-{it}" for it in SCRIPTS),
+    "usr/include/skern.h", f"{LIBRARIES}/libskern.a", f"{LIBRARIES}/libskern.so", f"{LIBRARIES}/pkgconfig/skern.pc",
     "usr/share/man/man1/ask.1.gz", "usr/share/man/man1/skern.1.gz", "usr/share/man/man3/skern.3.gz", "usr/share/bash-completion/completions/ask",
-    *(f"{PAGES}/{it}" for it in ("README.md", "CHANGELOG.md", "BUILT", "copyright", "docs/POLICIES.md", "examples/attach", "examples/attached", "examples/process-filters")),
+    *(f"{PAGES}/{it}" for it in ("README.md", "CHANGELOG.md", "BUILT", "copyright", "docs/POLICIES.md", *(f"examples/{it}" for it in SCRIPTS))),
 ]
 # What the repository alone has, and what a root with nothing else has not, by the commands that want it.
 OF_REPOSITORY = re.compile(r"tools/|\./(gate|test|prove|bench)\b|\brt |\bcd ")
-MISSING = [("python3", re.compile(r"examples/(attach|attached|process-filters)\b")), ("strace", re.compile(r"^strace ")), ("dot", re.compile(r"\| *dot "))]
+MISSING = [("python3", re.compile(rf"examples/({'|'.join(SCRIPTS)})\b")), ("strace", re.compile(r"^strace ")), ("dot", re.compile(r"\| *dot "))]
 # What dpkg writes down of what it has done, and what it made beside it.
 OF_DPKG = re.compile(r"var/lib/dpkg/(status|available|diversions|statoverride)(-old)?|var/lib/dpkg/(lock|lock-frontend|triggers/.*)|var/log/dpkg\.log|var/cache/ldconfig/aux-cache|etc/ld\.so\.cache")
 PLAIN = {"PATH": "/usr/sbin:/usr/bin:/sbin:/bin", "HOME": "/root"}

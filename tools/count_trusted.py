@@ -3,7 +3,7 @@
 
 A promise names the files that it is said in; what these import from other definitions is read with them, and so on.
 Statements of laws count where a promise cites them: those on each run and on each report. The last figures are
-those of `ask`, of the library for C, and of every file that docs/DEFINITIONS.md names, with all laws and with what stores and sets are to
+those of `ask`, of the library for C, and of every file that docs/PROVED.md names, with all laws and with what stores and sets are to
 their callers. What only code or proofs look at, and worked examples, are imported by no definition, and so not
 counted; nor are imports and blank lines. The lines of comments are told apart from those of the definitions that they
 say in words. Types are read in the sources, where they are declared."""
@@ -12,7 +12,7 @@ import re
 import sys
 
 ROOT = os.path.dirname(os.path.dirname(os.path.abspath(__file__)))
-PAGE = os.path.join(ROOT, "docs", "DEFINITIONS.md")
+PAGE = os.path.join(ROOT, "docs", "PROVED.md")
 IMPORT = re.compile(r"^(?:pub )?use Rattle\.(sk_\w+|libskern)\.specs\.([\w.]+?)(?:\.\{.*| as .*)?$")
 # What each command reads and writes.
 TEXTS = ["sk_asm/Assembly", "sk_asm/Listing", "sk_engines/EvalCommand", "sk_engines/CheckCommand", "sk_engines/AsmCommand", "sk_engines/ListCommand"]
@@ -73,16 +73,14 @@ def read_with(names):
 
 
 def named_on_the_page():
-    """The definitions that docs/DEFINITIONS.md names, in the second column of its table. A name without a crate is of
-    the crate before it."""
+    """The definitions that docs/PROVED.md names, in the last column of its tables, but for worked examples. A name
+    without a crate is of the crate of the heading."""
     with open(PAGE, encoding="utf-8") as file:
-        cells = [line.split("|")[2] for line in file if line.startswith("| ") and line.count("|") > 3]
-    for cell in cells:
-        crate = None
-        for name in re.findall(r"`([\w/]+)\.antt`", cell):
-            if "/specs/" in name:
-                crate, name = name.split("/specs/")
-            yield f"{crate}/{name}"
+        sections = re.split(r"^### `(\w+)`", file.read(), flags=re.M)[1:]
+    for crate, section in zip(sections[::2], sections[1::2]):
+        for cell in re.findall(r"\|([^|]*)\|$", section, re.M):
+            for name in re.findall(r"`((?:\w+/)*(?!Worked)\w+)\.antt`", cell):
+                yield name.replace("/specs/", "/") if "/specs/" in name else f"{crate}/{name}"
 
 
 def count(name):
@@ -110,7 +108,7 @@ def main():
         ("everything that 'skern' promises", whole),
         ("all that 'ask' promises, beside it", asked - whole),
         ("the library for C, beside both", exported - whole - asked),
-        ("every definition and law that docs/DEFINITIONS.md names", whole | page),
+        ("every definition and law that docs/PROVED.md names", whole | page),
     ]
     for what, found in [*promised, *wholes]:
         tell(what, found, verbose)

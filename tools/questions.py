@@ -83,7 +83,10 @@ def main(store: str, program: str, *typed: str) -> int:
         if not any(UNANSWERED in it for it in contents):
             write(f"{store}/asked/{name}/{key}", contents[0])
             write(f"{store}/asked/{name}/{key}.args", "".join(f"{it}\n" for it in words.given).encode())
-    sys.stdout.buffer.write(text)
+    # rt ends each answer with a line end. Raw bytes are instructions of eight.
+    if {"--raw", "raw"} & {*typed} and len(text) % 8 == 1:
+        text = text[:-1]
+    sys.stdout.buffer.write(words.as_answered(text) if program == "ask" else text)
     return int(status)
 
 

@@ -1,10 +1,13 @@
 """The words and the standard input of ask and skern for a program that `rt try` runs: in a folder of its own, and without the
 streams of whoever asks. rt cuts a standard input that is silent for two seconds, so each is read whole before."""
 import errno
+import html
+import json
 import os
 import re
 import stat
 import tempfile
+from collections.abc import Callable
 
 from crates import TOP
 
@@ -120,5 +123,17 @@ class Words:
 
     def as_typed(self, said: bytes) -> bytes:
         """What the program says, with the words that were typed."""
-        names = re.compile(rb"%b/(\d+)" % re.escape(os.fsencode(self.room)))
-        return names.sub(lambda it: shown(self.renamed[int(it[1])]), said)
+        return self.with_names(said, shown)
+
+    def as_answered(self, text: bytes) -> bytes:
+        """The answer of ask, with the words that were typed: some name their files in it, a page as HTML and a document as JSON."""
+        if self.given[:1] == ["page"]:
+            return self.with_names(text, lambda it: html.escape(os.fsdecode(shown(it))).encode())
+        if "--json" in self.given:
+            return self.with_names(text, lambda it: json.dumps(os.fsdecode(shown(it)))[1:-1].encode())
+        return self.with_names(text, shown)
+
+    def with_names(self, text: bytes, written: Callable[[str], bytes]) -> bytes:
+        """A text, with the words that were typed in place of names in this room, or in another one beside it."""
+        names = re.compile(rb"%b/[^/\s]+/(\d+)" % re.escape(os.fsencode(os.path.dirname(self.room))))
+        return names.sub(lambda it: written(self.renamed[int(it[1])]), text)
