@@ -429,7 +429,7 @@ _ask() {
     local word=${COMP_WORDS[COMP_CWORD]} before=${COMP_WORDS[COMP_CWORD - 1]} asked=${COMP_WORDS[1]}
     COMPREPLY=()
     if [ "$COMP_CWORD" -eq 1 ]; then
-        mapfile -t COMPREPLY < <(compgen -W 'calls when diff expect lint replay why show arches filter check --help --version' -- "$word")
+        mapfile -t COMPREPLY < <(compgen -W 'calls when diff expect lint replay allow why show arches page filter check --help --version' -- "$word")
     elif [ "$before" = --call ] || { [ "$asked" = why ] && [ "$COMP_CWORD" -eq 2 ] && [[ $word != -* ]]; }; then
         mapfile -t COMPREPLY < <(compgen -W "$_ask_calls" -- "$word")
     elif [ "$before" = --only ]; then
@@ -451,10 +451,11 @@ _ask() {
         diff) mapfile -t COMPREPLY < <(compgen -W '--stricter --json --numbers --arch --cap --kernel --machine --native --runc --strict --help' -- "$word") ;;
         expect) mapfile -t COMPREPLY < <(compgen -W '--json --numbers --arch --cap --kernel --machine --native --runc --strict --help' -- "$word") ;;
         lint) mapfile -t COMPREPLY < <(compgen -W '--all --json --numbers --cap --kernel --machine --native --runc --strict --help' -- "$word") ;;
+        page) mapfile -t COMPREPLY < <(compgen -W '--old --numbers --cap --kernel --machine --native --runc --strict --help' -- "$word") ;;
         arches) mapfile -t COMPREPLY < <(compgen -W '--json --cap --kernel --machine --native --runc --strict --help' -- "$word") ;;
         filter) mapfile -t COMPREPLY < <(compgen -W '--to --raw --smaller --cap --kernel --machine --native --runc --strict --help' -- "$word") ;;
         replay | why) mapfile -t COMPREPLY < <(compgen -W '--json --arch --cap --kernel --machine --native --runc --strict --help' -- "$word") ;;
-        show | check) mapfile -t COMPREPLY < <(compgen -W '--arch --cap --kernel --machine --native --runc --strict --help' -- "$word") ;;
+        allow | show | check) mapfile -t COMPREPLY < <(compgen -W '--arch --cap --kernel --machine --native --runc --strict --help' -- "$word") ;;
         *) mapfile -t COMPREPLY < <(compgen -W '--cap --kernel --machine --native --runc --strict --help' -- "$word") ;;
         esac
     else
