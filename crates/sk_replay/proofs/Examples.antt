@@ -13,10 +13,12 @@ use Rattle.sk_replay.specs.Lines.{begun_call, call_in, is_event, is_mark, is_mar
 use Rattle.sk_replay.specs.AuditRecords.{audited_call, is_record_type, number_behind}
 use Rattle.sk_replay.specs.Modes.{is_other_mode}
 use Rattle.sk_replay.specs.Replaying.{call_text, number_text}
+use Rattle.sk_replay.specs.Since.{effective, process_number, scope_of_call}
 use Rattle.sk_replay.specs.WorkedArguments.{WorkedArguments}
 use Rattle.sk_replay.specs.WorkedCalls.{WorkedCalls}
 use Rattle.sk_replay.specs.WorkedLines.{WorkedLines}
 use Rattle.sk_replay.specs.WorkedLogged.{WorkedLogged}
+use Rattle.sk_replay.specs.WorkedSince.{WorkedSince}
 
 pub worked_arguments : WorkedArguments
 unfolding number_of all_names all_numbers number_of_constant plain_number argument_of negative_number negative_of number_in_c number_or_constant octal_number part_of behind ends_argument bare is_plain_byte raw_number unnamed value_of values_in
@@ -83,6 +85,9 @@ worked_calls = record {
   left_quoted = refl;
   two_names = refl;
   blank = refl;
+  blank_with_spaces = refl;
+  number_alone = refl;
+  parenthesis_alone = refl;
   signal = refl;
   attached = refl;
   ended = refl;
@@ -159,3 +164,48 @@ worked_lines = record {
 pub worked_logged : WorkedLogged
 unfolding digits name_of number_named name_at name_in name_on number_at number_in number_on runs_of number_of all_names all_numbers number_of_constant plain_number argument_of negative_number negative_of number_in_c number_or_constant octal_number part_of behind ends_argument bare is_plain_byte raw_number unnamed value_of values_in written begun_call call_in is_event is_mark is_mark_byte is_returned number_shown said_at whole_call is_other_mode is_record_type number_behind audited_call
 worked_logged = record { rising = refl; once = refl; of_all = refl; without_a_name = refl; no_calls = refl; counted = refl; made = refl; not_made = refl; mixed = refl }
+
+pub worked_since : WorkedSince
+unfolding digits name_of number_named name_at name_in name_on number_at number_in number_on runs_of number_of all_names all_numbers number_of_constant plain_number argument_of negative_number negative_of number_in_c number_or_constant octal_number part_of behind ends_argument bare is_plain_byte raw_number unnamed value_of values_in written begun_call call_in is_event is_mark is_mark_byte is_returned number_shown said_at whole_call is_other_mode is_record_type number_behind audited_call process_number effective scope_of_call
+worked_since = record {
+  behind_it = refl;
+  again = refl;
+  by_prctl = refl;
+  by_number = refl;
+  not_known_what = refl;
+  strict = refl;
+  other_calls = refl;
+  failed = refl;
+  failed_and_padded = refl;
+  failed_first = refl;
+  killed = refl;
+  unfinished = refl;
+  fails_later = refl;
+  succeeds_later = refl;
+  another_fails = refl;
+  no_end = refl;
+  no_end_but_a_text = refl;
+  ends_without_a_number = refl;
+  near_end = refl;
+  far_end = refl;
+  launcher = refl;
+  later = refl;
+  own_attachment = refl;
+  all_threads = refl;
+  all_threads_and_more = refl;
+  other_flags = refl;
+  flags_not_known = refl;
+  in_brackets = refl;
+  with_times = refl;
+  without_numbers = refl;
+  times_are_no_numbers = refl;
+  number_left_out = refl;
+  attached_without_number = refl;
+  superseded = refl;
+  superseded_before = refl;
+  written = refl;
+  of_a_record = refl;
+  no_filter = refl;
+  prctl_of_i386 = refl;
+  number_of_i386 = refl;
+}

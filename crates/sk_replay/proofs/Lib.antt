@@ -11,3 +11,5 @@ pub mod Ends
 pub mod Undecided
 pub mod Alike
 pub mod Logging
+pub mod Attached
+pub mod NextLines

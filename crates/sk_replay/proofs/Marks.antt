@@ -1,6 +1,7 @@
 -- The words of a line, one after the other.
 use Rattle.std.proofs.Common.{◌≡◌, ◌∙◌, ap, refl, sym, ℕ, Bool, List, ◌∷◌, filter, nat_eq, true, false}
 use Rattle.std.specs.List.{list_any, starts_with}
+use Rattle.std.specs.Str.{bytes_eq}
 use Rattle.sk_names.specs.declared.architecture.Architecture.{Architecture}
 use Rattle.sk_replay.specs.declared.line.LogLine.{LogLine}
 use Rattle.sk_replay.specs.AuditRecords.{is_record_type}
@@ -19,6 +20,14 @@ any_behind word words rest total cut f so_far = sym (sym so_far ∙ ap (list_any
 -- one that is
 pub any_here : (word : List ℕ) (words rest : List (List ℕ)) (total : Bool) → words ≡ word ∷ rest → is_record_type word ≡ true → list_any is_record_type words ≡ total → true ≡ total
 any_here word words rest total cut t so_far = sym (sym so_far ∙ ap (list_any is_record_type) cut ∙ rw t refl)
+
+-- a word that is not this one
+pub one_behind : (one word : List ℕ) (words rest : List (List ℕ)) (total : Bool) → words ≡ word ∷ rest → bytes_eq one word ≡ false → list_any (bytes_eq one) words ≡ total → list_any (bytes_eq one) rest ≡ total
+one_behind one word words rest total cut f so_far = sym (sym so_far ∙ ap (list_any (bytes_eq one)) cut ∙ rw f refl)
+
+-- one that is
+pub one_here : (one word : List ℕ) (words rest : List (List ℕ)) (total : Bool) → words ≡ word ∷ rest → bytes_eq one word ≡ true → list_any (bytes_eq one) words ≡ total → true ≡ total
+one_here one word words rest total cut t so_far = sym (sym so_far ∙ ap (list_any (bytes_eq one)) cut ∙ rw t refl)
 
 -- the words that begin with a key
 abbrev pub with_key : List ℕ → List (List ℕ) → List (List ℕ)

@@ -17,3 +17,5 @@ pub mod WorkedLines
 pub mod Logged
 pub mod LoggedLaws
 pub mod WorkedLogged
+pub mod Since
+pub mod WorkedSince

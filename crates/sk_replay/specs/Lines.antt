@@ -151,7 +151,14 @@ abbrev pub said : Architecture → List (List ℕ) → List ℕ → LogLine
 said by [] text = Unclear
 said by (word ∷ words) text = if is_mark word then said by words text else said_at by word words text
 
--- what a line says, by its words before the first `(` (40), of which the first may be marks, and what stands behind it: a call,
--- an event that is none, or nothing that is understood
+-- by its words before the first `(` (40), of which the first may be marks, and what stands behind it
+abbrev pub said_in : Architecture → List ℕ → LogLine
+said_in by line = said by (words_of (before_first (λ byte. byte == 40) line)) (after_first (λ byte. byte == 40) line)
+
+-- spaces (32) alone, or nothing
+abbrev pub is_blank : List ℕ → Bool
+is_blank line = list_all (λ byte. byte == 32) line
+
+-- what a line says: a call, an event that is none, such as a line without a word, or nothing that is understood
 abbrev pub line_of : Architecture → List ℕ → LogLine
-line_of by line = said by (words_of (before_first (λ byte. byte == 40) line)) (after_first (λ byte. byte == 40) line)
+line_of by line = if is_blank line then Event else said_in by line

@@ -43,7 +43,10 @@ pub record WorkedCalls : Type 0 where
   pub no_result : line_of architecture.X86_64 (codes "9 close(3)") ≡ Unclear
   pub left_quoted : line_of architecture.X86_64 (codes "9 unlink(\"a) = 0") ≡ Unclear
   pub two_names : line_of architecture.X86_64 (codes "9 sh close(3) = 0") ≡ Unclear
-  pub blank : line_of architecture.X86_64 [] ≡ Unclear
+  pub blank : line_of architecture.X86_64 [] ≡ Event
+  pub blank_with_spaces : line_of architecture.X86_64 (codes "   ") ≡ Event
+  pub number_alone : line_of architecture.X86_64 (codes "9 ") ≡ Unclear
+  pub parenthesis_alone : line_of architecture.X86_64 (codes " (") ≡ Unclear
   pub signal : line_of architecture.X86_64 (codes "9 --- SIGCHLD {si_signo=SIGCHLD, si_code=CLD_EXITED} ---") ≡ Event
   pub attached : line_of architecture.X86_64 (codes "strace: Process 9 attached") ≡ Event
   pub ended : line_of architecture.X86_64 (codes "[pid 9] +++ exited with 0 +++") ≡ Event

@@ -1,6 +1,7 @@
 //! Laws of the calls that words stand for. No program calls these functions: the contract of each is the law.
 ghost use Rattle.sk_replay.specs.LoggedLaws.{NumbersAreMade, NumbersRise};
 ghost use Rattle.sk_replay.specs.WorkedLogged.{WorkedLogged};
+ghost use Rattle.sk_replay.specs.WorkedSince.{WorkedSince};
 ghost use Rattle.sk_replay.specs.WorkedWords.{WorkedWords};
 ghost use Rattle.sk_replay.specs.WorkedArguments.{WorkedArguments};
 ghost use Rattle.sk_replay.specs.WorkedCalls.{WorkedCalls};
@@ -52,4 +53,9 @@ pub fn numbers_are_made()
 #[tactic(auto, using(crate::proofs::Logging::numbers_rise))]
 pub fn numbers_rise()
     ensures law { NumbersRise }
+{}
+
+/// The lines of logs from under a filter, as they were worked out by hand.
+pub fn worked_since()
+    ensures law { WorkedSince }
 {}

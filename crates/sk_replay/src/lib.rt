@@ -4,6 +4,7 @@
 
 mod answer;
 mod argument;
+mod attaching;
 mod audit;
 mod call;
 mod cuts;
@@ -21,6 +22,7 @@ mod quoted;
 mod replaying;
 mod row;
 mod shown;
+mod since;
 mod tally;
 mod text;
 mod value;
@@ -37,6 +39,7 @@ pub use named::{call_named, plain_number};
 pub use quoted::plain_word;
 pub use replaying::replay;
 pub use row::Row;
+pub use since::since_attached;
 pub use text::{push_call, replay_text};
 pub use value::Value;
 pub use word::{call_in, name_part};

@@ -2,7 +2,7 @@
 ghost use Rattle.std.specs.Prelude.{◌≡◌, Some, None, codes, nat_eq};
 ghost use Rattle.std.specs.List.{list_all, starts_with};
 ghost use Rattle.sk_text.specs.Lines.{words_of};
-ghost use Rattle.sk_replay.specs.Lines.{begun_call, begun_part, call_at, call_in, call_of, clone_registers, event_or, in_registers, is_answer, is_event, is_mark, is_mark_byte, is_returned, is_unfinished, line_of, number_in, number_shown, said, said_at, unfinished, whole_call};
+ghost use Rattle.sk_replay.specs.Lines.{begun_call, begun_part, call_at, call_in, call_of, clone_registers, event_or, in_registers, is_answer, is_blank, is_event, is_mark, is_mark_byte, is_returned, is_unfinished, line_of, number_in, number_shown, said, said_at, said_in, unfinished, whole_call};
 
 use crate::audit::{audited_call, is_audit_record};
 use crate::call::{Call, value_at};
@@ -29,19 +29,37 @@ const UNFINISHED: &[u8] = b" <unfinished ...>";
 
 impl LogLine {
     /// What this line says of a process of an architecture.
-    #[tactic(auto, using(crate::proofs::Marks::unmarked, crate::proofs::Marks::marked))]
     pub(crate) fn of(architecture: Architecture, line: &[u8]) -> LogLine
         ensures line { result ≡ line_of architecture line.now }
     {
-        let (before, text) = cut(line, b'(');
-        let mut words = Words(before);
-        while let Some(word) = words.next() {
-            if !is_mark(word) {
-                return said_at(architecture, word, words, text);
-            }
+        if is_blank(line) {
+            LogLine::Event
+        } else {
+            said_in(architecture, line)
         }
-        LogLine::Unclear
     }
+}
+
+// Whether a line has no word.
+fn is_blank(line: &[u8]) -> bool
+    ensures blank { result ≡ is_blank line.now }
+{
+    line.iter().all(|byte| *byte == b' ')
+}
+
+// What the words of a line say, of which the first may be marks.
+#[tactic(auto, using(crate::proofs::Marks::unmarked, crate::proofs::Marks::marked))]
+fn said_in(architecture: Architecture, line: &[u8]) -> LogLine
+    ensures said { result ≡ said_in architecture line.now }
+{
+    let (before, text) = cut(line, b'(');
+    let mut words = Words(before);
+    while let Some(word) = words.next() {
+        if !is_mark(word) {
+            return said_at(architecture, word, words, text);
+        }
+    }
+    LogLine::Unclear
 }
 
 // What the words say from the first on that is no mark, and the text behind them.
@@ -129,11 +147,18 @@ fn call_in(architecture: Architecture, name: &[u8], words: Words<'_>, text: &[u8
 fn call_of(architecture: Architecture, written: Written, nr: u32, text: &[u8]) -> Option<Call>
     ensures call { result ≡ call_of architecture written nr text.now }
 {
-    if text.ends_with(UNFINISHED) {
+    if is_unfinished(text) {
         begun_call(architecture, written, nr, text)
     } else {
         whole_call(architecture, written, nr, text)
     }
+}
+
+/// Whether a call has not returned, of which this stands behind its opening parenthesis.
+pub(crate) fn is_unfinished(text: &[u8]) -> bool
+    ensures unfinished { result ≡ is_unfinished text.now }
+{
+    text.ends_with(UNFINISHED)
 }
 
 #[tactic(auto, unfolding(crate::specs::Lines::whole_call))]

@@ -1,8 +1,0 @@
-use Rattle.std.proofs.Common.{◌≡◌}
-use Rattle.sk_text.specs.Lines.{words_of}
-use Rattle.sk_replay.specs.Lines.{line_of, said}
-use Rattle.sk_replay.proofs.line.LogLine.of.Given as goal
-
--- the words that are left say what all of them say
-abbrev pub invariant-loop-word : goal.invariant-loop-word
-invariant-loop-word l = said l.architecture (words_of l.words.0.now) l.text ≡ line_of l.architecture l.line
