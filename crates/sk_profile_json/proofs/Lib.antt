@@ -19,3 +19,4 @@ pub mod Behind
 pub mod WorkedInspectedRows
 pub mod Deciders
 pub mod WorkedDecidingRows
+pub mod Written

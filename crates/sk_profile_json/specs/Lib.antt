@@ -34,3 +34,4 @@ pub mod PartingTexts
 pub mod WorkedPartings
 pub mod Deciding
 pub mod WorkedDeciding
+pub mod Writing

@@ -34,6 +34,7 @@ mod said;
 mod slip;
 mod text;
 mod whole;
+mod writing;
 
 pub use answer::{Made, Refusal};
 pub use capabilities::capability;
@@ -49,3 +50,4 @@ pub use said::profile_of_bytes;
 pub use slip::{Extra, Slip};
 pub use text::refusal_text;
 pub use whole::{profile_in, read, value_of};
+pub use writing::profile_text;
