@@ -20,3 +20,7 @@ pub mod WorkedInspectedRows
 pub mod Deciders
 pub mod WorkedDecidingRows
 pub mod Written
+pub mod LastLine
+pub mod NamesBack
+pub mod Reread
+pub mod WorkedWritingRows

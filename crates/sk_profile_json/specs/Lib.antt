@@ -35,3 +35,4 @@ pub mod WorkedPartings
 pub mod Deciding
 pub mod WorkedDeciding
 pub mod Writing
+pub mod WorkedWriting

@@ -69,7 +69,7 @@ IsProfileText numbers (Err nr) = first_unnamed numbers ≡ Some nr
 -- a call of x86-64 is allowed if its number is one of these, and refused by EPERM if it is not; all else, as calls of x32 are, is killed: SECCOMP_RET_KILL_THREAD
 abbrev pub answer : List ℕ → Record → ℕ
 answer numbers call =
-    if not (call.arch == audit_of architecture.X86_64) || is_x32 call.nr then 0
+    if not (audit_of architecture.X86_64 == call.arch) || is_x32 call.nr then 0
     else if list_any (λ nr. nr == call.nr) numbers then value_with Allow None
     else value_with Errno (Some eperm)
 

@@ -7,6 +7,7 @@ ghost use Rattle.sk_profile_json.specs.PartingTexts.{NarrowMasksCompareLow, Oper
 ghost use Rattle.sk_profile_json.specs.WorkedPartings.{WorkedPartings};
 ghost use Rattle.sk_profile_json.specs.Deciding.{DecidersDecide};
 ghost use Rattle.sk_profile_json.specs.WorkedDeciding.{WorkedDeciding};
+ghost use Rattle.sk_profile_json.specs.WorkedWriting.{WorkedWriting};
 
 /// The definition gives the profiles and the faults that were worked out by hand.
 pub fn worked_profiles()
@@ -58,4 +59,10 @@ pub fn worked_deciding()
 #[tactic(auto, using(crate::proofs::Deciders::deciders_decide))]
 pub fn deciders_decide()
     ensures law { DecidersDecide }
+{}
+
+/// The texts of profiles are those that were worked out by hand.
+#[tactic(auto, using(crate::proofs::WorkedWritingRows::worked_writing))]
+pub fn worked_writing()
+    ensures law { WorkedWriting }
 {}

@@ -20,6 +20,7 @@ use std::alloc::{AllocError, Global};
 /// the first number that no call of x86-64 has.
 pub fn profile_text(alloc: Global, numbers: &[u32]) -> Result<Result<Vec<u8>, u32>, AllocError>
     ensures text { IfOk result (IsProfileText numbers.now) }
+    ensures says { IfOk result (λ told. IfOk told (λ text. SaysOf numbers.now text.items)) }
 {
     match first_unnamed(numbers) {
         Some(number) => Ok(Err(number)),
