@@ -1,10 +1,10 @@
 -- A line feed at the end of a text that was laid out changes no token.
-use Rattle.std.proofs.Common.{◌≡◌, ℕ, zero, suc, ◌+◌, ◌*◌, Bool, true, false, cond, ◌&&◌, List, [], ◌∷◌, ◌++◌, map, replicate, refl, sym, ap, ap₂, ◌∙◌, append_assoc, append-nil, inl, inr, true≢false, subst}
+use Rattle.std.proofs.Common.{◌≡◌, ℕ, zero, suc, ◌*◌, Bool, true, false, cond, ◌&&◌, List, [], ◌∷◌, ◌++◌, map, replicate, refl, sym, ap, ap₂, ◌∙◌, append_assoc, append-nil, inl, inr, true≢false, subst}
 use Rattle.json.specs.Token.{Token, begin_object, end_object, begin_array, end_array, key, string, number, boolean, null, bad}
 use Rattle.json.specs.Word.{ends_word, word}
 use Rattle.json.specs.Lex.{Lexeme, token, colon, comma, string_token, lex, between, tokens, punctuate, fresh}
 use Rattle.json.specs.Print.{escape, quoted, token_text, begins, ends, separator, IsPrintable, ArePrintable}
-use Rattle.json.specs.Layout.{Last, nothing, bracket, name, value, is_value, line, gap, depth_at, after, step, piece, pretty_from, pretty}
+use Rattle.json.specs.Layout.{Last, nothing, bracket, name, value, is_value, gap, depth_at, after, step, piece, pretty_from, pretty}
 use Rattle.json.specs.Spaced.{IsGap, AreGaps, print_spaced}
 use Rattle.json.proofs.Printed.Strings.{content-escape, lex-escape}
 use Rattle.json.proofs.Printed.Numbers.{lex-number, in_word-ended}

@@ -24,3 +24,5 @@ pub mod LastLine
 pub mod NamesBack
 pub mod Reread
 pub mod WorkedWritingRows
+pub mod Places
+pub mod WorkedLineRows

@@ -1,42 +1,40 @@
 -- The text of a profile that is written is read as a profile that allows these calls and refuses all others.
-use Rattle.std.proofs.Common.{◌≡◌, ◌≢◌, ℕ, nat_le, slice_index_or, ◌==◌, ◌&&◌, not, Bool, true, false, cond, List, [], ◌∷◌, ◌++◌, ◌≤◌, max, map, codes, refl, sym, subst, ap, ◌∙◌, append-nil, true≢false, arith, rules as steps}
-use Rattle.std.specs.Prelude.{Option, Some, None, Result, Ok, Err, is_some, AllPairs}
+use Rattle.std.proofs.Common.{◌≡◌, ◌≢◌, ℕ, nat_le, slice_index_or, ◌==◌, ◌&&◌, not, Bool, true, false, cond, List, [], ◌∷◌, ◌≤◌, max, map, codes, refl, sym, subst, ap, ◌∙◌, append-nil, true≢false, arith, rules as steps}
+use Rattle.std.specs.Prelude.{Option, Some, None, Ok, AllPairs}
 use Rattle.std.specs.Borrow.{Bor}
-use Rattle.std.specs.List.{list_all, list_any, filter_map}
+use Rattle.std.specs.List.{list_all, list_any}
 use Rattle.std.specs.Option.{option_and_then}
 use Rattle.std.specs.Str.{bytes_eq}
-use Rattle.std.proofs.lemmas.Bool.{and_parts, eqb-true}
+use Rattle.std.proofs.lemmas.Bool.{and_parts}
 use Rattle.std.proofs.lemmas.List.Kept.{AllPairs-cons}
 use Rattle.std.proofs.lemmas.List.Sums.{AllPass-from_list_all}
 use Rattle.std.proofs.lemmas.Slice.Eq.{bytes_eq-Decides}
-use Rattle.json.specs.Json.{Json, string, number, array, object, Items, no_items, item, member, no_members, value, max_depth, if_last, document}
-use Rattle.json.specs.Print.{ArePrintable}
+use Rattle.json.specs.Json.{Json, string, array, object, no_members, value, max_depth, if_last, document}
 use Rattle.json.specs.Strict.{HasUniqueKeys, ItemsHaveUniqueKeys}
 use Rattle.json.specs.Tree.{json_tokens, depth, items_depth, HasNumbers, ItemsHaveNumbers}
 use Rattle.json.specs.Word.{after_number}
 use Rattle.json.proofs.Printed.Trees.{value-json_tokens, ArePrintable-json_tokens}
 use Rattle.sk_insn.specs.declared.record.Record.{Record}
 use Rattle.sk_names.specs.declared.architecture.Architecture.TheVariants as architecture
-use Rattle.sk_names.specs.Names.{name_on, number_on, number_in, number_at, runs_of}
+use Rattle.sk_names.specs.Names.{name_on, number_on}
 use Rattle.sk_names.specs.X86_64.{number_named}
 use Rattle.sk_filter.specs.Errors.{error_number}
 use Rattle.sk_text.specs.Numbers.{number_of}
-use Rattle.sk_profile.specs.Profiles.{Rule, Profile, is_x32, has_x32_bit, arms_for, plain_rule, said_by, settled}
+use Rattle.sk_profile.specs.Profiles.{Profile, is_x32, has_x32_bit, arms_for, plain_rule, said_by, settled}
 use Rattle.sk_profile.specs.Sayings.{said}
 use Rattle.sk_profile_json.specs.declared.context.Context.{Context}
 use Rattle.sk_profile_json.specs.declared.context.Kernel.{Kernel}
 use Rattle.sk_profile_json.specs.declared.fault.Field.TheVariants as field
-use Rattle.sk_profile_json.specs.declared.machine.Machine.{Machine}
 use Rattle.sk_profile_json.specs.declared.machine.Machine.TheVariants as machine
-use Rattle.sk_profile_json.specs.Entries.{Named, all_named, entry_of}
+use Rattle.sk_profile_json.specs.Entries.{Named, all_named}
 use Rattle.sk_profile_json.specs.Fields.{is_text, list_of}
 use Rattle.sk_profile_json.specs.Keys.{key_of}
 use Rattle.sk_profile_json.specs.Multiplexed.{multiplexed_rules}
 use Rattle.sk_profile_json.specs.Parts.{parts_of}
 use Rattle.sk_profile_json.specs.Rules.{own_rules, rules_on}
-use Rattle.sk_profile_json.specs.Wholes.{IsDocument, Says, SaysWithin, entry_named, named_from, profile_in}
+use Rattle.sk_profile_json.specs.Wholes.{entry_named, named_from, profile_in}
 use Rattle.sk_profile_json.specs.WorkedFiles.{allowed, x86_64_part}
-use Rattle.sk_profile_json.specs.Writing.{Allows, SaysOf, answer, at, entries, entry, first_unnamed, names_of, profile_text, strings, value_of}
+use Rattle.sk_profile_json.specs.Writing.{Allows, SaysOf, answer, at, entries, first_unnamed, names_of, profile_text, strings, value_of}
 use Rattle.sk_profile_json.proofs.LastLine.{tokens_line}
 use Rattle.sk_profile_json.proofs.NamesBack.{found_by_name}
 

@@ -36,3 +36,5 @@ pub mod Deciding
 pub mod WorkedDeciding
 pub mod Writing
 pub mod WorkedWriting
+pub mod Lines
+pub mod WorkedLines

@@ -1,9 +1,6 @@
 -- Texts of profiles, worked out by hand: as people write them, and as they are read.
 use Rattle.std.specs.Prelude.{ℕ, ◌≡◌, ◌++◌, List, [], ◌∷◌, codes, Some, None}
-use Rattle.std.specs.Option.{option_and_then, option_map}
-use Rattle.std.specs.Result.{result_ok}
-use Rattle.sk_insn.specs.Record.{native}
-use Rattle.sk_profile_json.specs.declared.deciding.Decider.TheVariants.{Entry, Default, NoCall}
+use Rattle.sk_profile_json.specs.declared.deciding.Decider.TheVariants.{Entry, Default}
 use Rattle.sk_profile_json.specs.WorkedDeciding.{call, decider}
 use Rattle.sk_profile_json.specs.WorkedFiles.{allows, native as alone, plain, said}
 use Rattle.sk_profile_json.specs.Writing.{answer, first_unnamed, profile_text}

@@ -66,7 +66,8 @@ IsProfileText numbers (Err nr) = first_unnamed numbers ≡ Some nr
 
 -- ---- what it means
 
--- a call of x86-64 is allowed if its number is one of these, and refused by EPERM if it is not; all else, as calls of x32 are, is killed: SECCOMP_RET_KILL_THREAD
+-- a call of x86-64 is allowed if its number is one of these, and refused by EPERM if it is not. All else, as what is of x32, is killed:
+-- SECCOMP_RET_KILL_THREAD
 abbrev pub answer : List ℕ → Record → ℕ
 answer numbers call =
     if not (audit_of architecture.X86_64 == call.arch) || is_x32 call.nr then 0
@@ -76,7 +77,9 @@ answer numbers call =
 abbrev pub Allows : List ℕ → Profile → Type 0
 Allows numbers profile = (call : Record) → said_by profile call ≡ answer numbers call
 
--- wherever the text holds on x86-64, it says so; runc would answer ENOSYS by itself above the greatest number
+-- it is read as a profile that says so, wherever it holds on x86-64, unless runc attaches the filter: that answers ENOSYS by itself to numbers above the
+-- greatest one
 abbrev pub SaysOf : List ℕ → List ℕ → Type 0
 SaysOf numbers text =
-    (context : Context) → context.machine ≡ Some machine.X86_64 → context.runc ≡ false → (profile : Profile) × Says context text profile × Allows numbers profile
+    (context : Context) → context.machine ≡ Some machine.X86_64 → context.runc ≡ false
+    → (profile : Profile) × Says context text profile × Allows numbers profile

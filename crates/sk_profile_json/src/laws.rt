@@ -8,6 +8,8 @@ ghost use Rattle.sk_profile_json.specs.WorkedPartings.{WorkedPartings};
 ghost use Rattle.sk_profile_json.specs.Deciding.{DecidersDecide};
 ghost use Rattle.sk_profile_json.specs.WorkedDeciding.{WorkedDeciding};
 ghost use Rattle.sk_profile_json.specs.WorkedWriting.{WorkedWriting};
+ghost use Rattle.sk_profile_json.specs.Lines.{LinesHaveEntries};
+ghost use Rattle.sk_profile_json.specs.WorkedLines.{WorkedLines};
 
 /// The definition gives the profiles and the faults that were worked out by hand.
 pub fn worked_profiles()
@@ -65,4 +67,16 @@ pub fn deciders_decide()
 #[tactic(auto, using(crate::proofs::WorkedWritingRows::worked_writing))]
 pub fn worked_writing()
     ensures law { WorkedWriting }
+{}
+
+/// The lines of entries are those that were worked out by hand.
+#[tactic(auto, using(crate::proofs::WorkedLineRows::worked_lines))]
+pub fn worked_lines()
+    ensures law { WorkedLines }
+{}
+
+/// In the line of an entry an object begins that is read as the entry.
+#[tactic(auto, using(crate::proofs::Places::lines_have_entries))]
+pub fn lines_have_entries()
+    ensures law { LinesHaveEntries }
 {}

@@ -128,7 +128,7 @@ fn slip_at(before: &[u8], extra: Extra) -> Slip
     }
 }
 
-fn line_of(before: &[u8]) -> usize
+pub(crate) fn line_of(before: &[u8]) -> usize
     ensures line { result ≡ line_of before.now }
 {
     before.iter().filter(|byte| **byte == b'\n').count() + 1

@@ -85,7 +85,8 @@ fn push_error(out: &mut Pretty) -> Result<(), AllocError>
 }
 
 fn push_architecture(out: &mut Pretty) -> Result<(), AllocError>
-    ensures pushed { OnOk result (out.new ≡ out.old ++ token.key (key_of Field.Architectures) ∷ json_tokens (array (strings (scmp_name Architecture.X86_64 ∷ [])))) }
+    ensures pushed { OnOk result (out.new
+        ≡ out.old ++ token.key (key_of Field.Architectures) ∷ json_tokens (array (strings (scmp_name Architecture.X86_64 ∷ [])))) }
 {
     push_key(out, Field::Architectures)?;
     out.token(Token::BeginArray)?;
