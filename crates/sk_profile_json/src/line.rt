@@ -17,8 +17,8 @@ use crate::{ReadFault, value_of};
 use json::{Error, MAX_DEPTH, Reader, Scratch, Value, to_vec};
 use std::alloc::{AllocError, Global};
 
-/// The line of a file, from 1 on, in which the entry of its profile begins that has this number, from 0 on. Each brace before it is read from, so that it takes
-/// time as the square of the text's length.
+/// The line of a file, from 1 on, in which the entry of its profile begins that has this number, from 0 on. Each object before it is
+/// read once for each object around it, and these are at most as many as JSON may be deep here.
 pub fn entry_line(alloc: Global, bytes: &[u8], number: usize) -> Result<Option<usize>, AllocError>
     ensures line { IfOk result (IsEntryLine bytes.now number) }
 {
