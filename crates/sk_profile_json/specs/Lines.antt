@@ -1,6 +1,6 @@
--- The line of a file in which an entry of its profile begins: that of the first object in the text that reads as the entry. Of entries that are alike
--- only the first decides, and so theirs is one line.
-use Rattle.std.specs.Prelude.{ℕ, ◌≡◌, ◌&&◌, Bool, true, List, length, take, drop, find, slice_get, Option, Some, None, Result}
+-- The line of a file in which an entry of its profile begins: that of the first object that reads as the entry, among the first
+-- `most_objects` of the text. Of entries that are alike only the first decides, and so theirs is one line.
+use Rattle.std.specs.Prelude.{ℕ, ◌≡◌, true, List, length, take, drop, filter, find, slice_get, Option, Some, None, Result}
 use Rattle.std.specs.List.{range_with_len}
 use Rattle.std.specs.Option.{option_and_then, option_map}
 use Rattle.std.specs.Str.{IsUtf8}
@@ -32,12 +32,16 @@ entry_in number whole = entry_if number (text_inside whole) whole
 abbrev pub written : List ℕ → Option (List ℕ)
 written text = option_map (λ read. print (json_tokens read.0)) (value max_depth (tokens text))
 
--- an object (`{` is 123) that is written so
-abbrev pub begins : List ℕ → List ℕ → Bool
-begins wanted text = is_byte 123 (slice_get text 0) && is_written wanted (written text)
+-- the places at which an object may begin: those of `{` (123), also in strings
+abbrev pub openings : List ℕ → List ℕ
+openings text = filter (λ place. is_byte 123 (slice_get text place)) (range_with_len 0 (length text))
+
+-- no more are looked at, which bounds the work on a text that has many
+abbrev pub most_objects : ℕ
+most_objects = 1000
 
 abbrev pub place_of : List ℕ → List ℕ → Option ℕ
-place_of wanted text = find (λ place. begins wanted (drop place text)) (range_with_len 0 (length text))
+place_of wanted text = find (λ place. is_written wanted (written (drop place text))) (take most_objects (openings text))
 
 abbrev pub line_as : List ℕ → List ℕ → Option ℕ
 line_as wanted text = option_map (λ place. line_of (take place text)) (place_of wanted text)

@@ -1,11 +1,11 @@
 //! The line in which an entry of a profile begins.
-ghost use Rattle.std.specs.Prelude.{◌≡◌, ◌≤◌, Some, drop, length, slice_get, IfOk};
+ghost use Rattle.std.specs.Prelude.{◌≡◌, slice_get, IfOk};
 ghost use Rattle.std.specs.Option.{option_map};
 ghost use Rattle.json.specs.Tree.{HasNumbers};
 ghost use Rattle.json.specs.Value.{value_view};
 ghost use Rattle.sk_profile_json.specs.Fields.{is_written};
 ghost use Rattle.sk_profile_json.specs.Forms.{is_byte};
-ghost use Rattle.sk_profile_json.specs.Lines.{IsEntryLine, begins, entry_in, line_as, line_in, line_within, written};
+ghost use Rattle.sk_profile_json.specs.Lines.{IsEntryLine, entry_in, line_as, line_in, line_within, written};
 ghost use Rattle.sk_profile_json.specs.Wholes.{IsDocument};
 
 use crate::document::profile_of_document;
@@ -17,8 +17,11 @@ use crate::{ReadFault, value_of};
 use json::{Error, MAX_DEPTH, Reader, Scratch, Value, to_vec};
 use std::alloc::{AllocError, Global};
 
-/// The line of a file, from 1 on, in which the entry of its profile begins that has this number, from 0 on. Each object before it is
-/// read once for each object around it, and these are at most as many as JSON may be deep here.
+// The most objects of a text that are compared with an entry.
+const MOST_OBJECTS: usize = 1000;
+
+/// The line of a file, from 1 on, in which the entry of its profile begins that has this number, from 0 on. It is looked for
+/// among the first 1000 objects of the text.
 pub fn entry_line(alloc: Global, bytes: &[u8], number: usize) -> Result<Option<usize>, AllocError>
     ensures line { IfOk result (IsEntryLine bytes.now number) }
 {
@@ -74,32 +77,39 @@ fn line_in(alloc: Global, text: &str, entry: &Value<'_>) -> Result<Option<usize>
 fn line_as(alloc: Global, wanted: &[u8], text: &str) -> Result<Option<usize>, AllocError>
     ensures line { IfOk result (λ line. line ≡ line_as wanted.now text.now) }
 {
+    let mut scratch = Scratch::new(alloc);
+    let mut left = MOST_OBJECTS;
     for place in 0..text.len() {
-        if begins_at(alloc, wanted, text, place)? {
-            return Ok(Some(line_of(&text.as_bytes()[..place])));
+        if opens(text, place) {
+            if left == 0 {
+                return Ok(None);
+            }
+            left -= 1;
+            if is_written(alloc, wanted, &text[place..], &mut scratch)? {
+                return Ok(Some(line_of(&text.as_bytes()[..place])));
+            }
         }
     }
     Ok(None)
 }
 
-// Whether an object begins at a place that is written so.
-fn begins_at(alloc: Global, wanted: &[u8], text: &str, place: usize) -> Result<bool, AllocError>
-    requires within { place ≤ length text.now }
-    ensures begins { IfOk result (λ is. is ≡ begins wanted.now (drop place text.now)) }
+// Whether an object may begin there.
+fn opens(text: &str, place: usize) -> bool
+    ensures opens { result ≡ is_byte 123 (slice_get text.now place) }
 {
-    if text.as_bytes().get(place) == Some(&b'{') {
-        is_written(alloc, wanted, &text[place..])
-    } else {
-        Ok(false)
-    }
+    text.as_bytes().get(place) == Some(&b'{')
 }
 
 // Whether the value with which a text begins is written so without blanks.
-fn is_written(alloc: Global, wanted: &[u8], text: &str) -> Result<bool, AllocError>
+fn is_written(
+    alloc: Global,
+    wanted: &[u8],
+    text: &str,
+    scratch: &mut Scratch,
+) -> Result<bool, AllocError>
     ensures written { IfOk result (λ is. is ≡ is_written wanted.now (written text.now)) }
 {
-    let mut scratch = Scratch::new(alloc);
-    let mut reader = Reader::new(text, &mut scratch)?;
+    let mut reader = Reader::new(text, scratch)?;
     match Value::read(alloc, &mut reader, MAX_DEPTH) {
         Ok(value) => Ok(to_vec(alloc, &value)?.as_slice() == wanted),
         Err(Error::OutOfMemory) => Err(AllocError),
