@@ -8,7 +8,7 @@ use Rattle.sk_document.specs.Documents.{array, at, counted, maybe, object, strin
 
 -- the language of the text
 abbrev pub kind_name : Decider → List ℕ
-kind_name (Entry entry) = codes "profile"
+kind_name (Entry entry line) = codes "profile"
 kind_name NoEntry = codes "profile"
 kind_name NoCall = codes "profile"
 kind_name Foreign = codes "profile"
@@ -18,7 +18,7 @@ kind_name (Others line) = codes "policy"
 
 -- what of it decides
 abbrev pub by_name : Decider → List ℕ
-by_name (Entry entry) = codes "entry"
+by_name (Entry entry line) = codes "entry"
 by_name NoEntry = codes "no_entry"
 by_name NoCall = codes "no_call"
 by_name Foreign = codes "foreign"
@@ -28,10 +28,12 @@ by_name (Others line) = codes "others"
 
 -- the place of an entry in its list, from 0 on
 abbrev pub entry_of : Decider → Option ℕ
-entry_of (Entry entry) = Some entry
+entry_of (Entry entry line) = Some entry
 entry_of decider = None
 
+-- the line that decides, or in which the entry begins
 abbrev pub line_of : Decider → Option ℕ
+line_of (Entry entry line) = line
 line_of (Row line) = line
 line_of (Default line) = line
 line_of (Others line) = line

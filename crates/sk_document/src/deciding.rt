@@ -9,8 +9,8 @@ use std::alloc::AllocError;
 /// What of a text decides on a call: of a profile's, or of a policy's.
 #[derive(Clone, Copy, Debug, Drop, PartialEq, Eq)]
 pub enum Decider {
-    /// A profile's entry, from 0 on.
-    Entry(usize),
+    /// A profile's entry, from 0 on, and the line in which it begins, if it has one.
+    Entry(usize, Option<usize>),
     /// A profile's default: no entry says otherwise.
     NoEntry,
     /// Instructions of runc's own, which know no call with the number.
@@ -36,7 +36,7 @@ fn kind_name(decider: Decider) -> &'static str
     ensures name { result.now ≡ kind_name decider }
 {
     match decider {
-        Decider::Entry(_) | Decider::NoEntry | Decider::NoCall | Decider::Foreign => "profile",
+        Decider::Entry(_, _) | Decider::NoEntry | Decider::NoCall | Decider::Foreign => "profile",
         Decider::Row(_) | Decider::Default(_) | Decider::Others(_) => "policy",
     }
 }
@@ -45,7 +45,7 @@ fn by_name(decider: Decider) -> &'static str
     ensures name { result.now ≡ by_name decider }
 {
     match decider {
-        Decider::Entry(_) => "entry",
+        Decider::Entry(_, _) => "entry",
         Decider::NoEntry => "no_entry",
         Decider::NoCall => "no_call",
         Decider::Foreign => "foreign",
@@ -60,16 +60,17 @@ fn entry_of(decider: Decider) -> Option<usize>
     ensures entry { result ≡ entry_of decider }
 {
     match decider {
-        Decider::Entry(entry) => Some(entry),
+        Decider::Entry(entry, _) => Some(entry),
         _ => None,
     }
 }
 
-// The line that decides.
+// The line that decides, or in which the entry begins.
 fn line_of(decider: Decider) -> Option<usize>
     ensures line { result ≡ line_of decider }
 {
     match decider {
+        Decider::Entry(_, line) => line,
         Decider::Row(line) => line,
         Decider::Default(line) => line,
         Decider::Others(line) => line,
