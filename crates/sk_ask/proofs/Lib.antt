@@ -20,3 +20,4 @@ pub mod Unchecked
 pub mod Two
 pub mod Decided
 pub mod Logs
+mod Judged

@@ -25,6 +25,7 @@ use Rattle.sk_ask.specs.Helping.{help_text, version_text, word_help_text}
 use Rattle.sk_ask.specs.Lints.{TellsLint}
 use Rattle.sk_ask.specs.Pages.{TellsPage}
 use Rattle.sk_ask.specs.Replays.{OfLog, replayed}
+use Rattle.sk_ask.specs.Since.{OfAllJudged, OfJudged}
 use Rattle.sk_ask.specs.Shows.{Shows}
 use Rattle.sk_ask.specs.Smaller.{TellsFilter}
 use Rattle.sk_ask.specs.Troubles.{OfFiles, OfFirst, Over}
@@ -51,10 +52,11 @@ AnswersQuestion held may_spend asked context over by calls naming printing Expec
     OfFirst names ending (λ name others. OfDemands held name ending (λ it. IsExpectOf held may_spend asked name it others ending))
 AnswersQuestion held may_spend asked context over by calls naming printing (Lint all) names ending =
     over names ending (λ read. TellsLint may_spend naming printing all context names read ending)
-AnswersQuestion held may_spend asked context over by calls naming printing Replay names ending =
-    OfFirst names ending (λ name others. OfLog held name ending (λ log.
-    over others ending (λ read. ComesTo (replayed printing by name log read.chain read.notes) ending)))
-AnswersQuestion held may_spend asked context over by calls naming printing Allow names ending = OfLogs held names ending (λ logs. ComesTo (allowed by names logs) ending)
+AnswersQuestion held may_spend asked context over by calls naming printing (Replay since) names ending =
+    OfFirst names ending (λ name others. OfLog held name ending (λ log. OfJudged since by name log ending (λ text.
+    over others ending (λ read. ComesTo (replayed printing by name text read.chain read.notes) ending))))
+AnswersQuestion held may_spend asked context over by calls naming printing (Allow asks) names ending =
+    OfLogs held names ending (λ logs. OfAllJudged asks.since by names logs ending (λ texts. ComesTo (allowed by asks names texts) ending))
 AnswersQuestion held may_spend asked context over by calls naming printing Why names ending =
     OfFirst names ending (λ word others. OfMeant by word others ending (λ meant.
     over others ending (λ read. TellsWhyOf printing by meant context others read ending)))

@@ -15,16 +15,21 @@ use Rattle.sk_ask.specs.Complaints.{of_word}
 use Rattle.sk_ask.specs.Only.{sought_named}
 use Rattle.sk_ask.specs.Nearest.{architecture_names, capability_names, machine_names, of_unknown, see_capabilities, see_help}
 use Rattle.sk_ask.specs.OtherNames.{architecture_meant, kernel_meant}
-use Rattle.sk_ask.specs.Targets.{target_named}
+use Rattle.sk_ask.specs.Runtimes.{runtime_named}
+use Rattle.sk_ask.specs.Targets.{grant_named, target_named}
 use Rattle.sk_ask.specs.declared.word.Valued.{Valued}
 use Rattle.sk_ask.specs.declared.manner.Manner.{Manner}
 use Rattle.sk_ask.specs.declared.printing.Printing.{Printing}
 use Rattle.sk_ask.specs.declared.printing.Printing.TheVariants.{Text, Document}
 use Rattle.sk_ask.specs.declared.only.Sought.{Sought}
+use Rattle.sk_ask.specs.declared.runtime.Runtime.{Runtime}
+use Rattle.sk_ask.specs.declared.target.Grant.{Grant as Granted}
+use Rattle.sk_ask.specs.declared.target.Grant.TheVariants.{Policy}
 use Rattle.sk_ask.specs.declared.target.Target.{Target}
 use Rattle.sk_ask.specs.declared.target.Target.TheVariants.{Lines, Raw}
-use Rattle.sk_ask.specs.declared.word.Valued.TheVariants.{Call, Only, Cap, Kernel, Machine, Arch, To, Old}
+use Rattle.sk_ask.specs.declared.word.Valued.TheVariants.{Call, Only, Cap, Kernel, Machine, Arch, To, Grant, For, Old}
 use Rattle.sk_ask.specs.declared.word.TheConstants.{OPTIONS}
+use Rattle.sk_ask.specs.declared.word.Allowing.{Allowing}
 use Rattle.sk_ask.specs.declared.word.Word.{Word}
 use Rattle.sk_ask.specs.declared.word.Word.TheVariants.{Calls, Filter, When, Diff, Expect, Lint, Replay, Allow, Why, Show, Arches, Check, Page}
 
@@ -75,13 +80,17 @@ word_name (When dot) = codes "when"
 word_name (Diff stricter) = codes "diff"
 word_name Expect = codes "expect"
 word_name (Lint all) = codes "lint"
-word_name Replay = codes "replay"
-word_name Allow = codes "allow"
+word_name (Replay since) = codes "replay"
+word_name (Allow asks) = codes "allow"
 word_name Why = codes "why"
 word_name Show = codes "show"
 word_name Arches = codes "arches"
 word_name Check = codes "check"
 word_name (Page is) = codes "page"
+
+-- without an option all calls of logs count, and a policy is written for them alone
+abbrev pub plainly : Allowing
+plainly = record { since = false; grant = Policy; runtime = None }
 
 abbrev pub word_named : List ℕ → Option Word
 word_named name =
@@ -91,8 +100,8 @@ word_named name =
     else if bytes_eq name (codes "diff") then Some (Diff false)
     else if bytes_eq name (codes "expect") then Some Expect
     else if bytes_eq name (codes "lint") then Some (Lint false)
-    else if bytes_eq name (codes "replay") then Some Replay
-    else if bytes_eq name (codes "allow") then Some Allow
+    else if bytes_eq name (codes "replay") then Some (Replay false)
+    else if bytes_eq name (codes "allow") then Some (Allow plainly)
     else if bytes_eq name (codes "why") then Some Why
     else if bytes_eq name (codes "show") then Some Show
     else if bytes_eq name (codes "arches") then Some Arches
@@ -124,6 +133,8 @@ valued_name Kernel = codes "--kernel"
 valued_name Machine = codes "--machine"
 valued_name Arch = codes "--arch"
 valued_name To = codes "--to"
+valued_name Grant = codes "--to"
+valued_name For = codes "--for"
 valued_name Old = codes "--old"
 
 -- what is expected behind one
@@ -135,6 +146,8 @@ value_kind Kernel = codes "a version as 6.1"
 value_kind Machine = codes "a name"
 value_kind Arch = codes "a name"
 value_kind To = codes "raw, hex, lines, c, base64, bpf_asm or json"
+value_kind Grant = codes "policy or profile"
+value_kind For = codes "docker, crun or bwrap"
 value_kind Old = codes "a FILE"
 
 -- each call is told of by these
@@ -156,6 +169,16 @@ tells_of_one word = true
 abbrev pub writes_filters : Word → Bool
 writes_filters (Filter target smaller) = true
 writes_filters word = false
+
+-- calls are allowed by what this one writes
+abbrev pub allows : Word → Bool
+allows (Allow asks) = true
+allows word = false
+
+-- those of a runtime are too
+abbrev pub has_runtime : Word → Bool
+has_runtime (Allow asks) = is_some asks.runtime
+has_runtime word = false
 
 -- an old filter may stand before the file of this one
 abbrev pub may_compare : Word → Bool
@@ -182,10 +205,12 @@ valued_named word text =
     else if bytes_eq text (codes "--machine") then Some Machine
     else if tells_of_one word && bytes_eq text (codes "--arch") then Some Arch
     else if writes_filters word && bytes_eq text (codes "--to") then Some To
+    else if allows word && bytes_eq text (codes "--to") then Some Grant
+    else if allows word && bytes_eq text (codes "--for") then Some For
     else if may_compare word && bytes_eq text (codes "--old") then Some Old
     else None
 
--- there may be several calls, verdicts and capabilities, the last form is the one that is wanted, and there is one old filter
+-- there may be several calls, verdicts and capabilities, the last form is the one that is wanted, and there is one runtime and one old filter
 abbrev pub is_given : Valued → Question → Bool
 is_given Call asked = false
 is_given Only asked = false
@@ -194,6 +219,8 @@ is_given Kernel asked = is_some asked.kernel
 is_given Machine asked = is_some asked.machine
 is_given Arch asked = is_some asked.arch
 is_given To asked = false
+is_given Grant asked = false
+is_given For asked = has_runtime asked.word
 is_given Old asked = compares asked.word
 
 abbrev pub with_valued : Valued → Question → Result Question (List ℕ)
@@ -269,6 +296,22 @@ abbrev pub with_form : Question → Option Target → Result Question (List ℕ)
 with_form asked None = Err (expected_line asked.word To)
 with_form asked (Some target) = Ok (record asked { word = with_target target asked.word; awaits = None })
 
+abbrev pub as_grant : Granted → Word → Word
+as_grant grant (Allow asks) = Allow (record asks { grant = grant })
+as_grant grant word = word
+
+abbrev pub with_grant : Question → Option Granted → Result Question (List ℕ)
+with_grant asked None = Err (expected_line asked.word Grant)
+with_grant asked (Some grant) = Ok (record asked { word = as_grant grant asked.word; awaits = None })
+
+abbrev pub for_runtime : Runtime → Word → Word
+for_runtime runtime (Allow asks) = Allow (record asks { runtime = Some runtime })
+for_runtime runtime word = word
+
+abbrev pub with_runtime : Question → Option Runtime → Result Question (List ℕ)
+with_runtime asked None = Err (expected_line asked.word For)
+with_runtime asked (Some runtime) = Ok (record asked { word = for_runtime runtime asked.word; awaits = None })
+
 -- the word behind it
 abbrev pub with_value : Valued → Question → List ℕ → Result Question (List ℕ)
 with_value Call asked text = Ok (record asked { calls = asked.calls ++ text ∷ []; awaits = None })
@@ -278,6 +321,8 @@ with_value Kernel asked text = with_kernel asked (kernel_meant text)
 with_value Machine asked text = with_machine asked text (machine_named text)
 with_value Arch asked text = with_architecture asked text (architecture_meant text)
 with_value To asked text = with_form asked (target_named text)
+with_value Grant asked text = with_grant asked (grant_named text)
+with_value For asked text = with_runtime asked (runtime_named text)
 with_value Old asked text = Ok (record asked { word = with_old asked.word; names = text ∷ asked.names; awaits = None })
 
 -- ---- one word more
@@ -292,6 +337,8 @@ with_own_flag (Filter target smaller) text =
 with_own_flag (When dot) text = if bytes_eq text (codes "--dot") then Some (When true) else None
 with_own_flag (Diff stricter) text = if bytes_eq text (codes "--stricter") then Some (Diff true) else None
 with_own_flag (Lint all) text = if bytes_eq text (codes "--all") then Some (Lint true) else None
+with_own_flag (Replay since) text = if bytes_eq text (codes "--since-seccomp") then Some (Replay true) else None
+with_own_flag (Allow asks) text = if bytes_eq text (codes "--since-seccomp") then Some (Allow (record asks { since = true })) else None
 with_own_flag word text = None
 
 -- the first `=` (61) parts an option from the word that is joined to it
@@ -318,7 +365,7 @@ writes_documents (When dot) = true
 writes_documents (Diff stricter) = true
 writes_documents Expect = true
 writes_documents (Lint all) = true
-writes_documents Replay = true
+writes_documents (Replay since) = true
 writes_documents Why = true
 writes_documents Arches = true
 writes_documents word = false
@@ -406,8 +453,8 @@ with_word asked text = with_awaited asked text asked.awaits
 abbrev pub wanted : Word → List (List ℕ)
 wanted (Diff stricter) = codes "OLD" ∷ codes "NEW" ∷ []
 wanted Expect = codes "POLICY" ∷ codes "FILE" ∷ []
-wanted Replay = codes "LOG" ∷ codes "FILE" ∷ []
-wanted Allow = codes "LOG" ∷ []
+wanted (Replay since) = codes "LOG" ∷ codes "FILE" ∷ []
+wanted (Allow asks) = codes "LOG" ∷ []
 wanted Why = codes "CALL" ∷ codes "FILE" ∷ []
 wanted (Page true) = codes "OLD" ∷ codes "NEW" ∷ []
 wanted word = codes "FILE" ∷ []
@@ -434,7 +481,7 @@ named word asked = none_missing asked (missing asked)
 -- arguments are told of by all words but these
 abbrev pub tells_arguments : Word → Bool
 tells_arguments (Calls examples) = examples
-tells_arguments Allow = false
+tells_arguments (Allow asks) = false
 tells_arguments Show = false
 tells_arguments Check = false
 tells_arguments word = true

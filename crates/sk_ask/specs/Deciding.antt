@@ -10,6 +10,7 @@ use Rattle.sk_profile_json.specs.declared.context.Context.{Context}
 use Rattle.sk_profile_json.specs.declared.deciding.Decider.{Decider as ProfileDecider}
 use Rattle.sk_profile_json.specs.declared.deciding.Decider.TheVariants as profile
 use Rattle.sk_profile_json.specs.Deciding.{decider_by}
+use Rattle.sk_profile_json.specs.Lines.{IsEntryLine}
 use Rattle.sk_profile_json.specs.Partings.{IsSaidBy}
 use Rattle.sk_policy_text.specs.declared.deciding.Decider.{Decider as PolicyDecider}
 use Rattle.sk_policy_text.specs.declared.deciding.Decider.TheVariants as policy
@@ -22,11 +23,12 @@ use Rattle.sk_ask.specs.Kinds.{kind_of}
 
 -- ---- one text
 
-abbrev pub of_profile : ProfileDecider → Decider
-of_profile (profile.Entry entry) = Entry entry
-of_profile profile.Default = NoEntry
-of_profile profile.NoCall = NoCall
-of_profile profile.Foreign = Foreign
+-- an entry is told with the line in which it begins
+abbrev pub IsOfProfile : List ℕ → ProfileDecider → Decider → Type 0
+IsOfProfile text (profile.Entry entry) it = (line : Option ℕ) × IsEntryLine text entry line × (it ≡ Entry entry line)
+IsOfProfile text profile.Default it = it ≡ NoEntry
+IsOfProfile text profile.NoCall it = it ≡ NoCall
+IsOfProfile text profile.Foreign it = it ≡ Foreign
 
 abbrev pub of_policy : PolicyDecider → Decider
 of_policy (policy.Row line) = Row line
@@ -42,7 +44,7 @@ PolicyDecides call text it = (decider : Option PolicyDecider) × IsDeciderIn tex
 
 -- a profile if it says one, and else a policy if it stands for one
 abbrev pub DecidesBy : Record → List ℕ → Option Profile → Option Decider → Type 0
-DecidesBy call text (Some profile) it = it ≡ Some (of_profile (decider_by profile call))
+DecidesBy call text (Some profile) it = (decider : Decider) × IsOfProfile text (decider_by profile call) decider × (it ≡ Some decider)
 DecidesBy call text None it = MatchBool (stands_for_policy text) (PolicyDecides call text it) (it ≡ None)
 
 abbrev pub Decides : Context → Record → List ℕ → Option Decider → Type 0
@@ -67,9 +69,13 @@ abbrev pub line_text : List ℕ → List ℕ → Option ℕ → List ℕ
 line_text what without (Some line) = what ++ (codes "line " ++ (decimal line ++ codes " decides"))
 line_text what without None = without
 
+abbrev pub place_text : Option ℕ → List ℕ
+place_text (Some line) = codes " in line " ++ decimal line
+place_text None = []
+
 -- entries are counted from 1 on, as in all lines on profiles
 abbrev pub decider_text : Decider → List ℕ
-decider_text (Entry entry) = codes "entry " ++ (decimal (entry + 1) ++ codes " of syscalls decides")
+decider_text (Entry entry line) = codes "entry " ++ (decimal (entry + 1) ++ (codes " of syscalls" ++ (place_text line ++ codes " decides")))
 decider_text NoEntry = codes "no entry of syscalls says otherwise than the default"
 decider_text NoCall = codes "runc's own instructions decide, which know no such call"
 decider_text Foreign = codes "the profile is not for this architecture"

@@ -48,3 +48,5 @@ pub mod Reading
 pub mod Answers
 pub mod Images
 pub mod Allows
+pub mod Runtimes
+pub mod Since

@@ -9,6 +9,8 @@ use Rattle.sk_insn.specs.Instructions.{image_of}
 use Rattle.sk_ask.specs.Complaints.{of_word}
 use Rattle.sk_ask.specs.Endings.{Ending, answered, refused, ComesTo}
 use Rattle.sk_ask.specs.FilterText.{filter_line, filter_lines}
+use Rattle.sk_ask.specs.declared.target.Grant.{Grant}
+use Rattle.sk_ask.specs.declared.target.Grant.TheVariants.{Policy, Profile}
 use Rattle.sk_ask.specs.declared.target.Target.{Target}
 use Rattle.sk_ask.specs.declared.target.Target.TheVariants.{Lines, Raw, Hex, C, Base64, BpfAsm, Json}
 
@@ -22,6 +24,13 @@ target_named name =
     else if bytes_eq name (codes "base64") then Some Base64
     else if bytes_eq name (codes "bpf_asm") then Some BpfAsm
     else if bytes_eq name (codes "json") then Some Json
+    else None
+
+-- what is written to allow calls, behind `--to` of `ask allow`
+abbrev pub grant_named : List ℕ → Option Grant
+grant_named name =
+    if bytes_eq name (codes "policy") then Some Policy
+    else if bytes_eq name (codes "profile") then Some Profile
     else None
 
 -- the option that asks for it

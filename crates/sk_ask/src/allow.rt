@@ -1,20 +1,35 @@
-//! `ask allow`: the least policy that allows the calls of logs.
-ghost use Rattle.std.specs.Prelude.{◌≡◌, ◌++◌, ℕ, [], IfOk, OnOk, map, string_bytes};
+//! `ask allow`: the least policy or profile that allows the calls of logs.
+ghost use Rattle.std.specs.Prelude.{◌≡◌, ◌++◌, ℕ, [], IfOk, IfErr, OnOk, Ok, map, string_bytes};
 ghost use Rattle.std.specs.Option.{option_map};
 ghost use Rattle.sk_replay.specs.Logged.{numbers_in};
-ghost use Rattle.sk_ask.specs.Allows.{OfLogs, allowed, counts_of, some_unclear, unclear_note, unclear_notes, unclear_text, without_call};
+ghost use Rattle.sk_policy_when.specs.Allowing.{is_x86_64};
+ghost use Rattle.sk_profile_json.specs.Writing.{first_unnamed};
+ghost use Rattle.sk_ask.specs.Allows.{IsRefusal, OfLogs, allowed, counts_of, granted, profiled, some_unclear, unclear_note, unclear_notes, unclear_text, unnamed_line, with_runtime, without_call};
+ghost use Rattle.sk_ask.specs.Since.{OfAllJudged};
 ghost use Rattle.sk_ask.specs.Counts.{CountsReads};
 ghost use Rattle.sk_ask.specs.Endings.{ComesTo, ending_of};
 
 use crate::answer::Answer;
 use crate::replay::NO_CALL;
+use crate::runtime::Runtime;
 use crate::shelf::contents;
-use crate::{MOST_LOG_BYTES, Shelf, Trouble, about};
+use crate::since::all_judged;
+use crate::target::Grant;
+use crate::word::Allowing;
+use crate::{MOST_LOG_BYTES, Shelf, Trouble, about, of_word};
 use sk_names::Architecture;
 use sk_policy_when::allow_text;
+use sk_profile_json::profile_text;
 use sk_replay::{LineCounts, add_logged};
 use std::alloc::{AllocError, Global};
 use std::collections::BTreeSet;
+
+/// What is said where a profile is asked for of another architecture.
+const ONLY_X86_64: &str = "allow: a profile is written of calls of x86-64 alone: ";
+
+/// What is said where a call has no name, by which a profile would have it.
+const NO_NAME: &str =
+    "allow: a profile has calls by their names, and none of x86-64 has the number ";
 
 /// The answer to the logs in the files with these names.
 pub fn allow_answer<S: Shelf>(
@@ -22,23 +37,27 @@ pub fn allow_answer<S: Shelf>(
     names: &[String],
     shelf: &S,
     architecture: Architecture,
+    asks: Allowing,
     reads: &mut u64,
 ) -> Result<Answer, Trouble>
     ensures told { OfLogs (S.held shelf.now) (map string_bytes names.now) (ending_of result) (λ logs.
-        ComesTo (allowed architecture (map string_bytes names.now) logs) (ending_of result)) }
+        OfAllJudged asks.since architecture (map string_bytes names.now) logs (ending_of result) (λ texts.
+        ComesTo (allowed architecture asks (map string_bytes names.now) texts) (ending_of result))) }
     ensures counted { CountsReads result reads.old reads.new }
 {
     let logs = contents(alloc, shelf, reads, names, MOST_LOG_BYTES)?;
-    allowed(alloc, architecture, names, &logs)
+    let texts = all_judged(alloc, asks.since, architecture, names, logs)?;
+    allowed(alloc, architecture, asks, names, &texts)
 }
 
 fn allowed(
     alloc: Global,
     architecture: Architecture,
+    asks: Allowing,
     names: &[String],
     logs: &[Vec<u8>],
 ) -> Result<Answer, Trouble>
-    ensures told { ComesTo (allowed architecture (map string_bytes names.now) (map (λ log. log.items) logs.now)) (ending_of result) }
+    ensures told { ComesTo (allowed architecture asks (map string_bytes names.now) (map (λ log. log.items) logs.now)) (ending_of result) }
     ensures unread { (reads : ℕ) → CountsReads result reads reads }
 {
     let mut numbers = BTreeSet::new(alloc);
@@ -46,12 +65,69 @@ fn allowed(
     if let Some(name) = without_call(names, &counts) {
         return Err(Trouble::Refused(about(alloc, name, NO_CALL)?));
     }
+    add_runtime(&mut numbers, architecture, asks.runtime)?;
     let numbers = listed(alloc, &numbers)?;
     Ok(Answer {
-        text: allow_text(alloc, architecture, &numbers)?.into_bytes(),
+        text: granted(alloc, architecture, asks.grant, &numbers)?,
         notes: unclear_notes(alloc, names, &counts)?,
         denies: some_unclear(&counts),
     })
+}
+
+// Puts the numbers of a runtime's own calls among those that are there.
+fn add_runtime(
+    numbers: &mut BTreeSet<u32>,
+    architecture: Architecture,
+    runtime: Option<Runtime>,
+) -> Result<(), AllocError>
+    ensures numbers { OnOk result (numbers.new.keys ≡ with_runtime architecture runtime numbers.old.keys) }
+{
+    if let Some(runtime) = runtime {
+        add_logged(numbers, architecture, runtime.log().as_bytes())?;
+    }
+    Ok(())
+}
+
+// The text that allows calls with these numbers.
+fn granted(
+    alloc: Global,
+    architecture: Architecture,
+    grant: Grant,
+    numbers: &[u32],
+) -> Result<Vec<u8>, Trouble>
+    ensures text { IfOk result (λ text. granted architecture grant numbers.now ≡ Ok text.items) }
+    ensures refused { IfErr result (IsRefusal (granted architecture grant numbers.now)) }
+    ensures unread { (reads : ℕ) → CountsReads result reads reads }
+{
+    match grant {
+        Grant::Policy => Ok(allow_text(alloc, architecture, numbers)?.into_bytes()),
+        Grant::Profile if is_x86_64(architecture) => profiled(alloc, numbers),
+        Grant::Profile => Err(Trouble::Refused(of_word(alloc, ONLY_X86_64, b"--to profile")?)),
+    }
+}
+
+fn is_x86_64(architecture: Architecture) -> bool
+    ensures is { result ≡ is_x86_64 architecture }
+{
+    matches!(architecture, Architecture::X86_64)
+}
+
+fn profiled(alloc: Global, numbers: &[u32]) -> Result<Vec<u8>, Trouble>
+    ensures text { IfOk result (λ text. profiled numbers.now (first_unnamed numbers.now) ≡ Ok text.items) }
+    ensures refused { IfErr result (IsRefusal (profiled numbers.now (first_unnamed numbers.now))) }
+    ensures unread { (reads : ℕ) → CountsReads result reads reads }
+{
+    match profile_text(alloc, numbers)? {
+        Ok(text) => Ok(text),
+        Err(nr) => Err(Trouble::Refused(unnamed_line(alloc, nr)?)),
+    }
+}
+
+fn unnamed_line(alloc: Global, nr: u32) -> Result<Vec<u8>, AllocError>
+    ensures line { IfOk result (λ line. line.items ≡ unnamed_line nr) }
+{
+    let number = format!(in alloc; "{nr}")?;
+    of_word(alloc, NO_NAME, number.as_bytes())
 }
 
 // How many lines of each log are calls or are not understood, and the numbers of all calls.

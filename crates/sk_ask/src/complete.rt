@@ -99,7 +99,7 @@ fn tells_arguments(word: Word) -> bool
 {
     match word {
         Word::Calls { examples } => examples,
-        Word::Show | Word::Check | Word::Allow => false,
+        Word::Show | Word::Check | Word::Allow(_) => false,
         _ => true,
     }
 }
@@ -153,9 +153,9 @@ fn missing(word: Word, count: usize) -> Option<&'static str>
         (Word::Diff { .. } | Word::Page { compares: true }, 0) => Some("OLD"),
         (Word::Diff { .. } | Word::Page { compares: true }, 1) => Some("NEW"),
         (Word::Expect, 0) => Some("POLICY"),
-        (Word::Replay | Word::Allow, 0) => Some("LOG"),
+        (Word::Replay { .. } | Word::Allow(_), 0) => Some("LOG"),
         (Word::Why, 0) => Some("CALL"),
-        (Word::Expect | Word::Replay | Word::Why, 1) | (_, 0) => Some("FILE"),
+        (Word::Expect | Word::Replay { .. } | Word::Why, 1) | (_, 0) => Some("FILE"),
         _ => None,
     }
 }

@@ -6,7 +6,7 @@ ghost use Rattle.std.specs.Option.{option_map};
 ghost use Rattle.sk_profile.specs.Views.{profile_of};
 ghost use Rattle.sk_document.specs.declared.deciding.Decider.TheVariants.{Entry};
 ghost use Rattle.sk_document.specs.Deciding.{pair_of};
-ghost use Rattle.sk_ask.specs.Deciding.{AreDecided, Decides, DecidesBy, PolicyDecides, decider_text, decision_line, decision_lines, in_file, line_text, of_policy, of_profile, stands_for_policy};
+ghost use Rattle.sk_ask.specs.Deciding.{AreDecided, Decides, DecidesBy, IsOfProfile, PolicyDecides, decider_text, decision_line, decision_lines, in_file, line_text, of_policy, stands_for_policy};
 
 use crate::complaint::shown_name;
 use crate::form::{is_policy, unmarked};
@@ -15,7 +15,7 @@ use sk_document::{Decider, Decision};
 use sk_forms::listed;
 use sk_insn::Record;
 use sk_profile::Profile;
-use sk_profile_json::{Context, decider_by, profile_of_bytes};
+use sk_profile_json::{Context, decider_by, entry_line, profile_of_bytes};
 use std::alloc::{AllocError, Global};
 use std::fmt::Write;
 
@@ -80,7 +80,7 @@ fn decider_if(
     ensures decides { IfOk result (DecidesBy call.now text.now (option_map profile_of profile)) }
 {
     match profile {
-        Some(profile) => Ok(Some(of_profile(decider_by(&profile, call)))),
+        Some(profile) => Ok(Some(of_profile(alloc, text, decider_by(&profile, call))?)),
         None => policy_decider(alloc, call, text),
     }
 }
@@ -104,14 +104,22 @@ fn stands_for_policy(alloc: Global, text: &[u8]) -> Result<bool, AllocError>
     Ok(!has_form && kind_of(text).is_none() && is_policy(text))
 }
 
-fn of_profile(decider: sk_profile_json::Decider) -> Decider
-    ensures of { result ≡ of_profile decider }
+// What decides of the profile that a text says, an entry with its line.
+fn of_profile(
+    alloc: Global,
+    text: &[u8],
+    decider: sk_profile_json::Decider,
+) -> Result<Decider, AllocError>
+    ensures of { IfOk result (IsOfProfile text.now decider) }
 {
     match decider {
-        sk_profile_json::Decider::Entry(entry) => Decider::Entry(entry),
-        sk_profile_json::Decider::Default => Decider::NoEntry,
-        sk_profile_json::Decider::NoCall => Decider::NoCall,
-        sk_profile_json::Decider::Foreign => Decider::Foreign,
+        sk_profile_json::Decider::Entry(entry) => {
+            let line = entry_line(alloc, text, entry)?;
+            Ok(Decider::Entry(entry, line))
+        }
+        sk_profile_json::Decider::Default => Ok(Decider::NoEntry),
+        sk_profile_json::Decider::NoCall => Ok(Decider::NoCall),
+        sk_profile_json::Decider::Foreign => Ok(Decider::Foreign),
     }
 }
 
@@ -153,7 +161,7 @@ fn push_decider(text: &mut String, decider: Decider) -> Result<(), AllocError>
     ensures text { OnOk result (string_bytes text.new ≡ string_bytes text.old ++ decider_text decider) }
 {
     match decider {
-        Decider::Entry(entry) => push_entry(text, entry),
+        Decider::Entry(entry, line) => push_entry(text, entry, line),
         Decider::NoEntry => text.push_str("no entry of syscalls says otherwise than the default"),
         Decider::NoCall => text.push_str("runc's own instructions decide, which know no such call"),
         Decider::Foreign => text.push_str("the profile is not for this architecture"),
@@ -173,12 +181,15 @@ fn push_decider(text: &mut String, decider: Decider) -> Result<(), AllocError>
     }
 }
 
-// The entry with this number, from 0 on.
-fn push_entry(text: &mut String, entry: usize) -> Result<(), AllocError>
-    ensures text { OnOk result (string_bytes text.new ≡ string_bytes text.old ++ decider_text (Entry entry)) }
+// The entry with this number, from 0 on, and its line.
+fn push_entry(text: &mut String, entry: usize, line: Option<usize>) -> Result<(), AllocError>
+    ensures text { OnOk result (string_bytes text.new ≡ string_bytes text.old ++ decider_text (Entry entry line)) }
 {
     let count = entry as u128 + 1;
-    write!(text, "entry {count} of syscalls decides")
+    match line {
+        Some(line) => write!(text, "entry {count} of syscalls in line {line} decides"),
+        None => write!(text, "entry {count} of syscalls decides"),
+    }
 }
 
 // The line that decides, behind what stands there; or what is said without it.

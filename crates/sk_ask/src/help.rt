@@ -143,12 +143,15 @@ A FILE may be a profile, and then --cap, --kernel, --machine, --native, --runc a
 ";
 
 /// What `ask replay --help` says.
-pub const REPLAY_HELP: &str = "usage: ask replay [--json] [--arch ARCH] LOG FILE..
+pub const REPLAY_HELP: &str = "usage: ask replay [--since-seccomp] [--json] [--arch ARCH] LOG FILE..
 The calls in LOG, which strace -f -o LOG COMMAND wrote: each once, with how often it was made and the verdict of the filters in the
 FILEs, those first that are not performed; then how many lines are no calls, or are not understood. Of an argument that LOG shows as
 a text, a structure or a name that no table has, ? is written; where the verdict depends on one, its number stands in the verdict's
 place. strace -f -X raw -e raw=all -o LOG COMMAND shows each argument as a number. LOG may have lines that the kernel wrote too, with
 type=1326 or type=SECCOMP, as auditd, dmesg and journalctl print them: of such a call the number alone is known.
+  --since-seccomp
+                only calls of processes that have a filter, from where seccomp or prctl attaches it; other lines count as no calls. A
+                process that first comes behind that line has it too, and with SECCOMP_FILTER_FLAG_TSYNC all have
   --json        one JSON document in place of the text, whose form is in FORMATS.md
   --arch ARCH   the program was one of this architecture: ask --help has their names; s390x is not followed
 Status 1 where a call is not performed or may not be, or a line not understood. LOG has at most 268435456 bytes; - is standard input.
@@ -156,12 +159,17 @@ A FILE may be a profile, and then --cap, --kernel, --machine, --native, --runc a
 ";
 
 /// What `ask allow --help` says.
-pub const ALLOW_HELP: &str = "usage: ask allow [--arch ARCH] LOG..
+pub const ALLOW_HELP: &str =
+    "usage: ask allow [--since-seccomp] [--for RUNTIME] [--to policy|profile] [--arch ARCH] LOG..
 The least policy that allows the calls in the LOGs, which strace -f -o LOG COMMAND wrote, or the kernel, in lines with type=1326 or
 type=SECCOMP: a row for each number of a call, in rising order, and EPERM for all other calls. ask filter makes the filter of it.
+  --since-seccomp
+                only calls of processes that have a filter, as in ask replay
+  --for RUNTIME allow the calls too that a container's runtime makes itself under its filter: docker (runc), crun or bwrap
+  --to FORM     profile: a profile of docker's kind, of calls of x86-64 alone; else it is a policy
   --arch ARCH   the programs were of this architecture: ask --help has their names; a policy for x32 is one of x86-64
 Status 1 where a line is not understood, which standard error tells. A LOG has at most 268435456 bytes; - is standard input.
-Calls that the programs did not make in these runs are refused, and so are those that a container's runtime makes before them.
+Calls that the programs did not make in these runs are refused, and without --for those that a container's runtime makes before them.
 ";
 
 /// What `ask why --help` says.
@@ -228,8 +236,8 @@ pub fn word_help(word: Word) -> &'static str
         Word::Diff { .. } => DIFF_HELP,
         Word::Expect => EXPECT_HELP,
         Word::Lint { .. } => LINT_HELP,
-        Word::Replay => REPLAY_HELP,
-        Word::Allow => ALLOW_HELP,
+        Word::Replay { .. } => REPLAY_HELP,
+        Word::Allow(_) => ALLOW_HELP,
         Word::Why => WHY_HELP,
         Word::Show => SHOW_HELP,
         Word::Arches => ARCHES_HELP,

@@ -3,10 +3,14 @@ ghost use Rattle.std.specs.Prelude.{◌≡◌, ◌≤◌, ◌++◌, IfOk, OnOk, 
 ghost use Rattle.sk_ask.specs.Counts.{CountsReads};
 ghost use Rattle.sk_ask.specs.Endings.{ComesTo, ending_of};
 ghost use Rattle.sk_ask.specs.Replays.{OfLog, replayed, unclear_note, unclear_notes};
+ghost use Rattle.sk_ask.specs.Since.{OfJudged};
 ghost use Rattle.sk_ask.specs.Troubles.{OfFiles, OfFirst};
 
+use crate::analysis::Analysis;
 use crate::answer::{Answer, Tells};
+use crate::on::On;
 use crate::printing::Printing;
+use crate::since::judged;
 use crate::words::first_name;
 use crate::{Filters, MOST_LOG_BYTES, Reader, Shelf, Trouble, about, content};
 use sk_document::replay_document;
@@ -76,28 +80,30 @@ fn unclear_note(alloc: Global, name: &str, number: u64) -> Result<Vec<u8>, Alloc
     about(alloc, name, text.as_str())
 }
 
-/// The answer to the log in the file with the first of these names, and to the filters of the files behind it.
-pub fn replay_answer<S: Shelf>(
+/// The answer to the log in the file with the first of these names, or to what it has from under a filter, and to the filters of the
+/// files behind it.
+pub fn replay_answer<S: Shelf, A: Analysis>(
     alloc: Global,
     names: &[String],
     reader: &Reader<'_, S>,
-    architecture: Architecture,
-    printing: Printing,
+    on: On<'_, A>,
+    since: bool,
     reads: &mut u64,
 ) -> Result<Answer, Trouble>
     requires named { 1 ≤ length names.now }
     ensures told { OfFirst (map string_bytes names.now) (ending_of result) (λ name others. OfLog (S.held reader.now.shelf.now) name (ending_of result) (λ log.
+        OfJudged since on.entry.architecture name log (ending_of result) (λ text.
         OfFiles reader.now.manner (S.held reader.now.shelf.now) reader.now.context.now others (ending_of result) (λ read.
-        ComesTo (replayed printing architecture name log read.chain read.notes) (ending_of result)))) }
+        ComesTo (replayed on.entry.printing on.entry.architecture name text read.chain read.notes) (ending_of result))))) }
     ensures counted { CountsReads result reads.old reads.new }
 {
     let (name, files) = first_name(names);
     let log = content(alloc, reader.shelf, reads, name, MOST_LOG_BYTES)?;
     let replay = Replay {
-        printing,
-        architecture,
+        printing: on.printing,
+        architecture: on.architecture,
         name,
-        log,
+        log: judged(alloc, since, on.architecture, name, log)?,
     };
     reader.answer(alloc, reads, files, replay)
 }

@@ -1,7 +1,7 @@
 //! The forms that a filter is written in.
 ghost use Rattle.std.specs.Prelude.{◌≡◌, ◌++◌, IfOk, OnOk, flat_map, string_bytes};
 ghost use Rattle.sk_ask.specs.declared.target.Target.TheVariants.{Hex as hex_target, Lines as lines_target};
-ghost use Rattle.sk_ask.specs.Targets.{json_more, json_row, json_text, target_named, target_option, written_text};
+ghost use Rattle.sk_ask.specs.Targets.{grant_named, json_more, json_row, json_text, target_named, target_option, written_text};
 
 use crate::filter::push_filter;
 use sk_forms::{array_text, base64_text, decimals_text};
@@ -27,6 +27,30 @@ pub enum Target {
     BpfAsm,
     /// An array of JSON.
     Json,
+}
+
+/// What is written to allow calls.
+#[derive(Clone, Copy, Debug, PartialEq, Eq)]
+pub enum Grant {
+    /// A policy.
+    Policy,
+    /// A profile of docker's kind.
+    Profile,
+}
+
+impl Grant {
+    /// The one with this name.
+    pub fn named(name: &[u8]) -> Option<Grant>
+        ensures grant { result ≡ grant_named name.now }
+    {
+        if is_same(name, b"policy") {
+            Some(Grant::Policy)
+        } else if is_same(name, b"profile") {
+            Some(Grant::Profile)
+        } else {
+            None
+        }
+    }
 }
 
 impl Target {

@@ -2,9 +2,10 @@
 ghost use Rattle.std.specs.Prelude.{◌≡◌, IfOk, filter, map};
 ghost use Rattle.std.specs.List.{list_any};
 ghost use Rattle.std.specs.Str.{bytes_eq};
-ghost use Rattle.sk_ask.specs.Asking.{asks_help, asks_version, has_option, is_of_another, options_meant, options_of, shared_flags, valued_name, valued_named, value_kind, tells_calls, tells_conditions, tells_of_one, may_compare, compares, with_old, with_own_flag, with_target, word_named, writes_documents, writes_filters, word_name};
+ghost use Rattle.sk_ask.specs.Asking.{allows, asks_help, asks_version, as_grant, has_option, has_runtime, for_runtime, is_of_another, options_meant, options_of, shared_flags, valued_name, valued_named, value_kind, tells_calls, tells_conditions, tells_of_one, may_compare, compares, with_old, with_own_flag, with_target, word_named, writes_documents, writes_filters, word_name};
 
-use crate::target::Target;
+use crate::runtime::Runtime;
+use crate::target::{Grant, Target};
 use sk_text::is_same;
 use std::alloc::{AllocError, Global};
 
@@ -23,10 +24,10 @@ pub enum Word {
     Expect,
     /// Which calls get another verdict by bits that Linux does not read.
     Lint { all: bool },
-    /// The verdicts on the calls of a log.
-    Replay,
-    /// The least policy that allows the calls of logs.
-    Allow,
+    /// The verdicts on the calls of a log, or on those alone that are made under a filter.
+    Replay { since: bool },
+    /// The least policy or profile that allows the calls of logs, or those alone, and what a runtime makes beside them.
+    Allow(Allowing),
     /// The path of a call through the filters.
     Why,
     /// The listing of one filter.
@@ -39,6 +40,17 @@ pub enum Word {
     Page { compares: bool },
 }
 
+/// What `ask allow` is asked for.
+#[derive(Clone, Copy, Debug, PartialEq, Eq)]
+pub struct Allowing {
+    /// Calls that are made under a filter count alone.
+    pub since: bool,
+    /// What is written.
+    pub grant: Grant,
+    /// The runtime whose own calls are allowed too.
+    pub runtime: Option<Runtime>,
+}
+
 /// The names of all words.
 pub const NAMES: [&str; 13] = [
     "calls", "filter", "when", "diff", "expect", "lint", "replay", "allow", "why", "show",
@@ -46,7 +58,7 @@ pub const NAMES: [&str; 13] = [
 ];
 
 /// The names of all options, those of several words first.
-pub const OPTIONS: [&str; 20] = [
+pub const OPTIONS: [&str; 22] = [
     "--help",
     "--arch",
     "--cap",
@@ -67,6 +79,8 @@ pub const OPTIONS: [&str; 20] = [
     "--stricter",
     "--all",
     "--old",
+    "--since-seccomp",
+    "--for",
 ];
 
 impl Word {
@@ -90,9 +104,13 @@ impl Word {
         } else if is_same(name, b"lint") {
             Some(Word::Lint { all: false })
         } else if is_same(name, b"replay") {
-            Some(Word::Replay)
+            Some(Word::Replay { since: false })
         } else if is_same(name, b"allow") {
-            Some(Word::Allow)
+            Some(Word::Allow(Allowing {
+                since: false,
+                grant: Grant::Policy,
+                runtime: None,
+            }))
         } else if is_same(name, b"why") {
             Some(Word::Why)
         } else if is_same(name, b"show") {
@@ -119,8 +137,8 @@ impl Word {
             Word::Diff { .. } => "diff",
             Word::Expect => "expect",
             Word::Lint { .. } => "lint",
-            Word::Replay => "replay",
-            Word::Allow => "allow",
+            Word::Replay { .. } => "replay",
+            Word::Allow(_) => "allow",
             Word::Why => "why",
             Word::Show => "show",
             Word::Arches => "arches",
@@ -149,6 +167,29 @@ impl Word {
         }
     }
 
+    // The same, where what allows calls is written as this.
+    pub(crate) fn with_grant(self, grant: Grant) -> Word
+        ensures word { result ≡ as_grant grant self }
+    {
+        match self {
+            Word::Allow(asks) => Word::Allow(Allowing { grant, ..asks }),
+            _ => self,
+        }
+    }
+
+    // The same, where this runtime's own calls are allowed too.
+    pub(crate) fn with_runtime(self, runtime: Runtime) -> Word
+        ensures word { result ≡ for_runtime runtime self }
+    {
+        match self {
+            Word::Allow(asks) => Word::Allow(Allowing {
+                runtime: Some(runtime),
+                ..asks
+            }),
+            _ => self,
+        }
+    }
+
     // The same with the option of its own that is named so.
     pub(crate) fn with_own_flag(self, name: &[u8]) -> Option<Word>
         ensures word { result ≡ with_own_flag self name.now }
@@ -170,6 +211,15 @@ impl Word {
                 Some(Word::Diff { stricter: true })
             }
             Word::Lint { .. } if is_same(name, b"--all") => Some(Word::Lint { all: true }),
+            Word::Replay { .. } if is_same(name, b"--since-seccomp") => {
+                Some(Word::Replay { since: true })
+            }
+            Word::Allow(asks) if is_same(name, b"--since-seccomp") => {
+                Some(Word::Allow(Allowing {
+                    since: true,
+                    ..asks
+                }))
+            }
             _ => None,
         }
     }
@@ -192,6 +242,10 @@ pub enum Valued {
     Arch,
     /// The form that filters are written in.
     To,
+    /// What is written to allow calls.
+    Grant,
+    /// The runtime whose own calls are allowed too.
+    For,
     /// The file with an old filter.
     Old,
 }
@@ -207,7 +261,8 @@ impl Valued {
             Valued::Kernel => "--kernel",
             Valued::Machine => "--machine",
             Valued::Arch => "--arch",
-            Valued::To => "--to",
+            Valued::To | Valued::Grant => "--to",
+            Valued::For => "--for",
             Valued::Old => "--old",
         }
     }
@@ -222,6 +277,8 @@ impl Valued {
             Valued::Cap | Valued::Machine | Valued::Arch => "a name",
             Valued::Kernel => "a version as 6.1",
             Valued::To => "raw, hex, lines, c, base64, bpf_asm or json",
+            Valued::Grant => "policy or profile",
+            Valued::For => "docker, crun or bwrap",
             Valued::Old => "a FILE",
         }
     }
@@ -244,6 +301,10 @@ impl Valued {
             Some(Valued::Arch)
         } else if writes_filters(word) && is_same(name, b"--to") {
             Some(Valued::To)
+        } else if allows(word) && is_same(name, b"--to") {
+            Some(Valued::Grant)
+        } else if allows(word) && is_same(name, b"--for") {
+            Some(Valued::For)
         } else if may_compare(word) && is_same(name, b"--old") {
             Some(Valued::Old)
         } else {
@@ -365,7 +426,7 @@ pub(crate) fn writes_documents(word: Word) -> bool
             | Word::Diff { .. }
             | Word::Expect
             | Word::Lint { .. }
-            | Word::Replay
+            | Word::Replay { .. }
             | Word::Why
             | Word::Arches
     )
@@ -383,6 +444,22 @@ pub(crate) fn compares(word: Word) -> bool
     ensures compares { result ≡ compares word }
 {
     matches!(word, Word::Page { compares: true })
+}
+
+fn allows(word: Word) -> bool
+    ensures allows { result ≡ allows word }
+{
+    matches!(word, Word::Allow(_))
+}
+
+// Whether a runtime's own calls are allowed already.
+pub(crate) fn has_runtime(word: Word) -> bool
+    ensures has { result ≡ has_runtime word }
+{
+    match word {
+        Word::Allow(asks) => asks.runtime.is_some(),
+        _ => false,
+    }
 }
 
 fn writes_filters(word: Word) -> bool

@@ -3,7 +3,7 @@ ghost use Rattle.std.specs.Prelude.{◌≡◌, ◌≤◌, ◌++◌, ◌∷◌, I
 ghost use Rattle.std.specs.List.{before_first, after_first, slice_split};
 ghost use Rattle.sk_profile_json.specs.Capabilities.{capability};
 ghost use Rattle.sk_profile_json.specs.Machines.{machine_named};
-ghost use Rattle.sk_ask.specs.Asking.{asked_of, nothing_asked, ends_options, with_names, with_word, with_free, with_joined_or_flag, with_joined, is_equals, with_valued, with_value, with_caps, with_only, with_each_cap, is_comma, with_form, with_kernel, with_machine, with_architecture, with_flag, with_name, is_given, valued_named, expected_line, is_option, no_capability_line, no_machine_line, no_option_line, word_name};
+ghost use Rattle.sk_ask.specs.Asking.{asked_of, nothing_asked, ends_options, with_names, with_word, with_free, with_joined_or_flag, with_joined, is_equals, with_valued, with_value, with_caps, with_only, with_each_cap, is_comma, with_form, with_grant, with_runtime, with_kernel, with_machine, with_architecture, with_flag, with_name, is_given, valued_named, expected_line, is_option, no_capability_line, no_machine_line, no_option_line, word_name};
 ghost use Rattle.sk_ask.specs.Nearest.{architecture_names, of_unknown, see_help};
 ghost use Rattle.sk_ask.specs.OtherNames.{architecture_meant};
 ghost use Rattle.sk_ask.specs.Asked.{question_of, Asks, HasNames};
@@ -15,9 +15,11 @@ use crate::nearest::{
 };
 use crate::only::Sought;
 use crate::other_names::{architecture_meant, kernel_meant};
-use crate::target::Target;
+use crate::runtime::Runtime;
+use crate::target::{Grant, Target};
 use crate::word::{
-    Valued, Word, asks_help, compares, options_meant, tells_conditions, writes_documents,
+    Valued, Word, asks_help, compares, has_runtime, options_meant, tells_conditions,
+    writes_documents,
 };
 use crate::{Trouble, of_word};
 use sk_names::Architecture;
@@ -146,6 +148,8 @@ fn with_value(alloc: Global, option: Valued, asked: Asked, text: &str) -> Result
         Valued::Machine => with_machine(alloc, asked, text.as_bytes()),
         Valued::Arch => with_architecture(alloc, asked, text.as_bytes()),
         Valued::To => with_form(alloc, asked, Target::named(text.as_bytes())),
+        Valued::Grant => with_grant(alloc, asked, Grant::named(text.as_bytes())),
+        Valued::For => with_runtime(alloc, asked, Runtime::named(text.as_bytes())),
         Valued::Old => Ok(with_old(alloc, asked, text)?),
     }
 }
@@ -303,6 +307,32 @@ fn with_form(alloc: Global, asked: Asked, target: Option<Target>) -> Result<Aske
     })
 }
 
+fn with_grant(alloc: Global, asked: Asked, grant: Option<Grant>) -> Result<Asked, Trouble>
+    ensures exact { Asks result (with_grant (question_of asked) grant) }
+{
+    let Some(grant) = grant else {
+        return Err(Trouble::Refused(expected_line(alloc, asked.word, Valued::Grant)?));
+    };
+    Ok(Asked {
+        word: asked.word.with_grant(grant),
+        awaits: None,
+        ..asked
+    })
+}
+
+fn with_runtime(alloc: Global, asked: Asked, runtime: Option<Runtime>) -> Result<Asked, Trouble>
+    ensures exact { Asks result (with_runtime (question_of asked) runtime) }
+{
+    let Some(runtime) = runtime else {
+        return Err(Trouble::Refused(expected_line(alloc, asked.word, Valued::For)?));
+    };
+    Ok(Asked {
+        word: asked.word.with_runtime(runtime),
+        awaits: None,
+        ..asked
+    })
+}
+
 // A word that no option awaits.
 fn with_free(alloc: Global, asked: Asked, text: &String) -> Result<Asked, Trouble>
     ensures exact { Asks result (with_free (question_of asked) (string_bytes text.now)) }
@@ -380,7 +410,8 @@ fn is_given(option: Valued, asked: &Asked) -> bool
         Valued::Kernel => asked.kernel.is_some(),
         Valued::Machine => asked.machine.is_some(),
         Valued::Arch => asked.arch.is_some(),
-        Valued::To => false,
+        Valued::To | Valued::Grant => false,
+        Valued::For => has_runtime(asked.word),
         Valued::Old => compares(asked.word),
     }
 }

@@ -40,6 +40,30 @@ const POLICIES: &[(&str, &[u8], &[u8], u8)] = &[
         b"",
         0,
     ),
+    (
+        "allow --since-seccomp attached",
+        b"default errno/1 EPERM\n3 close allow\n39 getpid allow\n",
+        b"",
+        0,
+    ),
+    (
+        "allow --since-seccomp log",
+        b"",
+        b"ask: log: holds no call that attaches a filter: expected seccomp or prctl in lines as strace -f writes them\n",
+        2,
+    ),
+    (
+        "allow --to profile log",
+        b"{\n  \"defaultAction\": \"SCMP_ACT_ERRNO\",\n  \"defaultErrnoRet\": 1,\n  \"architectures\": [\n    \"SCMP_ARCH_X86_64\"\n  ],\n  \"syscalls\": [\n    {\n      \"names\": [\n        \"read\",\n        \"getpid\"\n      ],\n      \"action\": \"SCMP_ACT_ALLOW\"\n    }\n  ]\n}\n",
+        b"",
+        0,
+    ),
+    (
+        "allow --to profile --arch i386 log",
+        b"",
+        b"ask: allow: a profile is written of calls of x86-64 alone: --to profile\n",
+        2,
+    ),
 ];
 
 #[test]

@@ -6,11 +6,11 @@ use std::test::Fail;
 const ENDS: &[(&str, &[u8])] = &[
     (
         "why getpid profile",
-        b"\nprofile: entry 1 of syscalls decides\n",
+        b"\nprofile: entry 1 of syscalls in line 2 decides\n",
     ),
     (
         "why mseal profile",
-        b"\nprofile: entry 4 of syscalls decides\n",
+        b"\nprofile: entry 4 of syscalls in line 5 decides\n",
     ),
     (
         "why read profile",
@@ -26,7 +26,7 @@ const ENDS: &[(&str, &[u8])] = &[
     ),
     (
         "why getpid configuration all",
-        b"\nconfiguration: entry 1 of syscalls decides\n",
+        b"\nconfiguration: entry 1 of syscalls in line 1 decides\n",
     ),
     ("why read(3) rows", b"\nrows: line 5 decides\n"),
     ("why read(2) rows", b"\nrows: line 6 decides\n"),
@@ -38,7 +38,7 @@ const ENDS: &[(&str, &[u8])] = &[
     ),
     (
         "why getpid rows all listed",
-        b"\nrows: line 7 decides\nlisted: entry 1 of syscalls decides\n",
+        b"\nrows: line 7 decides\nlisted: entry 1 of syscalls in line 1 decides\n",
     ),
     ("why getpid getpid", b"\nerrno/1 EPERM by filter 0 at 2\n"),
 ];

@@ -54,6 +54,11 @@ const FILES: &[(&str, &[u8])] = &[
         b"7 read(0x3, 0x7ffd, 0x40) = 0x40\n7 getpid() = 0x7\n7 read(0x3, 0x7ffd, 0x40) = 0x3\n7 +++ exited with 0 +++\n",
     ),
     ("cut", b"7 getpid() = 0x7\n7 read(0x3, 0x7f\n"),
+    // 7 attaches a filter, 6 has none, and 8 comes later.
+    (
+        "attached",
+        b"6 getuid() = 0\n7 read(0x3, 0x7ffd, 0x40) = 0x40\n7 seccomp(SECCOMP_SET_MODE_FILTER, 0, NULL) = -1 EFAULT (Bad address)\n7 getgid() = 0\n7 seccomp(SECCOMP_SET_MODE_FILTER, 0, {len=1, filter=0x7ffd}) = 0\n7 getpid() = 0x7\n6 getuid() = 0\n8 close(3) = 0\n",
+    ),
     ("empty", b""),
     ("wanted", b"read: performed\n"),
     (
