@@ -441,7 +441,12 @@ _ask() {
     elif [ "$before" = --machine ]; then
         mapfile -t COMPREPLY < <(compgen -W 'x86-64 aarch64 riscv64 ppc64le loongarch64' -- "$word")
     elif [ "$before" = --to ]; then
-        mapfile -t COMPREPLY < <(compgen -W 'lines raw hex c base64 bpf_asm json' -- "$word")
+        case $asked in
+        allow) mapfile -t COMPREPLY < <(compgen -W 'policy profile' -- "$word") ;;
+        *) mapfile -t COMPREPLY < <(compgen -W 'lines raw hex c base64 bpf_asm json' -- "$word") ;;
+        esac
+    elif [ "$before" = --for ]; then
+        mapfile -t COMPREPLY < <(compgen -W 'docker crun bwrap' -- "$word")
     elif [ "$before" = --kernel ]; then
         mapfile -t COMPREPLY < <(compgen -W '5.4 5.10 5.15 6.1 6.6 6.12' -- "$word")
     elif [[ $word == -* ]]; then
@@ -454,8 +459,10 @@ _ask() {
         page) mapfile -t COMPREPLY < <(compgen -W '--old --numbers --cap --kernel --machine --native --runc --strict --help' -- "$word") ;;
         arches) mapfile -t COMPREPLY < <(compgen -W '--json --cap --kernel --machine --native --runc --strict --help' -- "$word") ;;
         filter) mapfile -t COMPREPLY < <(compgen -W '--to --raw --smaller --cap --kernel --machine --native --runc --strict --help' -- "$word") ;;
-        replay | why) mapfile -t COMPREPLY < <(compgen -W '--json --arch --cap --kernel --machine --native --runc --strict --help' -- "$word") ;;
-        allow | show | check) mapfile -t COMPREPLY < <(compgen -W '--arch --cap --kernel --machine --native --runc --strict --help' -- "$word") ;;
+        replay) mapfile -t COMPREPLY < <(compgen -W '--since-seccomp --json --arch --cap --kernel --machine --native --runc --strict --help' -- "$word") ;;
+        allow) mapfile -t COMPREPLY < <(compgen -W '--since-seccomp --for --to --arch --cap --kernel --machine --native --runc --strict --help' -- "$word") ;;
+        why) mapfile -t COMPREPLY < <(compgen -W '--json --arch --cap --kernel --machine --native --runc --strict --help' -- "$word") ;;
+        show | check) mapfile -t COMPREPLY < <(compgen -W '--arch --cap --kernel --machine --native --runc --strict --help' -- "$word") ;;
         *) mapfile -t COMPREPLY < <(compgen -W '--cap --kernel --machine --native --runc --strict --help' -- "$word") ;;
         esac
     else

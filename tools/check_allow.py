@@ -5,9 +5,11 @@ check_allow.py: of logs of strace(1) and of the kernel, those of examples/logs a
 installed. Of each log the policy becomes a filter, by `ask filter`. By `ask replay` the filter performs each call of the log. By
 `ask calls` it allows just the numbers of the log, whose names are read here a second time, and refuses each other one. Where
 this Linux lets a process attach a filter, the command runs again under it, and ends as before. So it does under bubblewrap,
-where that is installed and runs.
+where that is installed and runs. Where runc runs, a container is traced and runs again under its own profile: that of the calls
+from under the first filter, and that of the program's calls and the runtime's.
 
 Prints what was left out, each problem, and at last 'N passed, M failed'."""
+import json
 import os
 import re
 import shutil
@@ -45,6 +47,12 @@ COMMANDS = [
     ("-f", ["/usr/sbin/sshd", "-T"]),
     ("-f", ["/usr/bin/bwrap", "--ro-bind", "/", "/", "--unshare-pid", "--dev", "/dev", "/bin/true"]),
 ]
+# What runs in a container: it writes a line, and has a child.
+PROGRAM = """#include <stdio.h>
+#include <sys/wait.h>
+#include <unistd.h>
+int main(void) { if (fork() == 0) return 3; int status; wait(&status); printf("child %d\\n", WEXITSTATUS(status)); return 0; }
+"""
 SECONDS = 60
 X32 = 1 << 30
 CALL = re.compile(r"^(?:\d+ +)?(?:(?:[\d:.]+|\[[0-9a-f]+\]) +)?(\w+)\(", re.M)
@@ -160,6 +168,50 @@ def check_command(folder, number, options, command, attaches, wraps):
         check_wrapped(what, command, policy)
 
 
+def contained(folder, name, profile, *before):
+    """Runs the program in a container with this profile."""
+    run(["runc", "spec", "--bundle", folder])
+    path = os.path.join(folder, "config.json")
+    with open(path, encoding="utf-8") as file:
+        configuration = json.load(file)
+    configuration["process"].update(args=["/bin/program"], terminal=False)
+    configuration["linux"]["seccomp"] = profile
+    with open(path, "w", encoding="utf-8") as file:
+        json.dump(configuration, file)
+    ran = run([*before, "runc", "run", "--bundle", folder, f"check-{os.getpid()}-{name}"])
+    os.unlink(path)
+    return ran
+
+
+def check_container(folder):
+    """A container runs again under the profile of its own log, and under that of its program and its runtime."""
+    os.makedirs(os.path.join(folder, "rootfs/bin"))
+    program, log = os.path.join(folder, "rootfs/bin/program"), os.path.join(folder, "runc.strace")
+    if run(["gcc", "-static", "-o", program, "-x", "c", "-"], PROGRAM.encode()).returncode:
+        return print("left out: a container, since gcc makes no static program here")
+    allowing = {"defaultAction": "SCMP_ACT_LOG"}
+    before = contained(folder, "before", allowing)
+    if (before.returncode, before.stdout) != (0, b"child 3\n"):
+        return print("left out: a container, since runc does not run here")
+    contained(folder, "traced", allowing, "strace", "-f", "-o", log)
+    made = ask("allow", "--since-seccomp", "--for", "docker", "--to", "profile", log)
+    judge(made.returncode == 0 and not made.stderr, "the log of a container has no line that is not understood")
+    ran = contained(folder, "under", json.loads(made.stdout))
+    judge((ran.returncode, ran.stdout) == (0, b"child 3\n"), "a container runs under the profile of its log")
+    names, every = set(json.loads(made.stdout)["syscalls"][0]["names"]), calls_in(log)[0]
+    judge({"execve", "wait4", "exit_group"} <= names and not names & {"mount", "pivot_root", "unshare", "setns"},
+          "no call counts that runc makes before the filter")
+    judge({"mount", "pivot_root"} <= every, "runc makes such calls")
+    run(["strace", "-f", "-o", log, program])
+    made = ask("allow", "--for", "docker", "--to", "profile", log)
+    ran = contained(folder, "apart", json.loads(made.stdout))
+    judge((ran.returncode, ran.stdout) == (0, b"child 3\n"), "a container runs under the profile of its program and its runtime")
+    refused = json.loads(made.stdout)
+    refused["syscalls"][0]["names"].remove("execve")
+    ran = contained(folder, "refused", refused)
+    judge(ran.returncode != 0, "a container does not run without the call that starts its program")
+
+
 def check_several(folder):
     """Several logs are one, and what is no log is refused."""
     read, write = os.path.join(folder, "read"), os.path.join(folder, "write")
@@ -199,6 +251,10 @@ def main():
                     print(f"left out: {command[0]} is not installed")
                 else:
                     check_command(folder, number, options, command, attaches, wraps)
+            if shutil.which("runc") is None or os.geteuid():
+                print("left out: a container, since runc is not installed or this is not root")
+            else:
+                check_container(folder)
     print(f"{passed} passed, {failed} failed")
     return failed != 0 or passed == 0
 

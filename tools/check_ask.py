@@ -157,6 +157,12 @@ FILES = {
     "i386": insn(0x20, k=4) + insn(0x15, 0, 1, 0x40000003) + insn(0x06, k=0x00050001) + ALLOW,
     "flag": insn(0x20, k=16) + insn(0x45, 0, 1, 1) + insn(0x06, k=0x00050026) + ALLOW,
     "log": b"7 read(0x3, 0x7ffd, 0x40) = 0x40\n7 getpid() = 0x7\n7 read(0x3, 0x7ffd, 0x40) = 0x3\n7 +++ exited with 0 +++\n",
+    # A runtime probes, and starts a program that has a child: 6 is outside, 7 attaches, 8 comes later.
+    "log_attached": b"6 getuid() = 0\n7 mmap(0, 4096, 0x3, 0x22, -1, 0) = 0x7ffd\n7 seccomp(SECCOMP_SET_MODE_FILTER, SECCOMP_FILTER_FLAG_TSYNC, NULL <unfinished ...>\n"
+        b"6 read(4,  <unfinished ...>\n7 <... seccomp resumed>) = -1 EFAULT (Bad address)\n7 getgid() = 0\n"
+        b"7 prctl(PR_SET_SECCOMP, SECCOMP_MODE_FILTER, {len=9, filter=0xc0} <unfinished ...>\n6 <... read resumed>\"\", 8) = 0\n7 <... prctl resumed>) = 0\n"
+        b"7 read(0x3, 0x7ffd, 0x40) = 0x40\n6 getuid() = 0\n8 getpid() = 8\n7 +++ exited with 0 +++\n",
+    "log_named": b"7 getpid() = 7\n7 syscall_0x1388(0x1) = -1 ENOSYS (Function not implemented)\n",
     "log_i386": b"7 getuid32() = 0\n7 socketcall(0x1, 0x7ffd) = 3\n7 syscall_0x1388(0x1) = -1 ENOSYS (Function not implemented)\n",
     "log_cut": b"7 getpid() = 0x7\n7 read(0x3, 0x7f",
     "log_crlf": b"7 getpid() = 0x7\r\n",
@@ -236,6 +242,7 @@ class Row(NamedTuple):
 GOT = "39 getpid errno/1 EPERM\n"
 LINE = line(GETPID).decode()
 NO_CALL = "holds no call: expected lines as strace -f writes them, or the kernel's with type=1326"
+NO_ATTACHMENT = "holds no call that attaches a filter: expected seccomp or prctl in lines as strace -f writes them"
 NO_FILTER = "holds no filter: expected bytes of struct sock_filter, hexadecimal digits, lines filter HEX, another form of a filter, a policy, or a profile in JSON"
 
 
@@ -268,8 +275,8 @@ WORDS_OF_ASK = ["calls", "filter", "when", "diff", "expect", "lint", "replay", "
 OPTIONS = {
     "--help": WORDS_OF_ASK, "--arch": [it for it in WORDS_OF_ASK if it not in ("filter", "lint", "arches", "page")],
     **{it: WORDS_OF_ASK for it in ("--cap", "--kernel", "--machine", "--native", "--runc", "--strict")},
-    "--numbers": ["when", "diff", "expect", "lint", "page"], "--json": [it for it in WORDS_OF_ASK if it not in ("filter", "allow", "show", "check", "page")], "--call": ["calls", "when"], "--only": ["calls", "when"], "--examples": ["calls"], "--to": ["filter"],
-    "--raw": ["filter"], "--smaller": ["filter"], "--dot": ["when"], "--stricter": ["diff"], "--all": ["lint"], "--old": ["page"],
+    "--numbers": ["when", "diff", "expect", "lint", "page"], "--json": [it for it in WORDS_OF_ASK if it not in ("filter", "allow", "show", "check", "page")], "--call": ["calls", "when"], "--only": ["calls", "when"], "--examples": ["calls"], "--to": ["filter", "allow"],
+    "--raw": ["filter"], "--smaller": ["filter"], "--dot": ["when"], "--stricter": ["diff"], "--all": ["lint"], "--old": ["page"], "--since-seccomp": ["replay", "allow"], "--for": ["allow"],
 }
 # Capabilities by their numbers, architectures, and machines whose programs profiles are for.
 with open("/usr/include/linux/capability.h", encoding="ascii") as header:
@@ -587,6 +594,27 @@ GOOD = [
     Row("ask replay log_decoded second | head -n 1", 1, "", "1 read(0x3, ?, 0x40) depends on args[1], which the log does not show\n"),
     good("ask replay log_crlf all", "1 getpid() allow\n"),
     Row("ask replay log_of_kernel raw", 1, "", "1 getpid(?, ?, ?, ?, ?, ?) errno/1 EPERM\n1 read(?, ?, ?, ?, ?, ?) allow\n"),
+    # What has no filter yet, or never gets one, is left out; an option's word has its names.
+    good("ask replay --since-seccomp log_attached all", "1 read(0x3, 0x7ffd, 0x40) allow\n1 getpid() allow\n11 lines are no calls\n"),
+    Row("ask replay log_attached --since-seccomp raw | head -n 1", 1, "", "1 getpid() errno/1 EPERM\n"),
+    good("ask allow --since-seccomp log_attached", "default errno/1 EPERM\n0 read allow\n39 getpid allow\n"),
+    good("ask allow log_attached | wc -l", "9\n"),
+    *[trouble(f"ask {words}", f"log: {NO_ATTACHMENT}") for words in ("replay --since-seccomp log all", "allow --since-seccomp log", "allow --since-seccomp log_attached log")],
+    good("ask allow --to policy --to profile log | tr -d ' \n'; echo", '{"defaultAction":"SCMP_ACT_ERRNO","defaultErrnoRet":1,"architectures":["SCMP_ARCH_X86_64"],'
+         '"syscalls":[{"names":["read","getpid"],"action":"SCMP_ACT_ALLOW"}]}\n'),
+    good("ask allow --to profile log | ask replay log - | tail -n 1", "1 line is no call\n"),
+    good("ask allow --to profile log | ask calls - | grep ' allow$'", "0 read allow\n39 getpid allow\n"),
+    *[good(f"ask allow --to profile log | ask calls --call {nr} -", f"{nr} {told}\n") for nr, told in (
+        (1, "write errno/1 EPERM"), (1000, "- errno/1 EPERM"), (1073741824, "- kill_thread"), (4294967295, "- errno/1 EPERM"))],
+    good("ask allow --to profile log | ask calls --arch i386 --call getpid -", "20 getpid kill_thread\n"),
+    trouble("ask allow --to profile log_named", "allow: a profile has calls by their names, and none of x86-64 has the number 5000"),
+    *[trouble(f"ask allow --to profile --arch {arch} log", "allow: a profile is written of calls of x86-64 alone: --to profile") for arch in ("i386", "x32", "aarch64")],
+    *[trouble(f"ask allow {words}", "allow: expected policy or profile behind --to") for words in ("--to", "--to raw log", "log --to=", "--to Profile log")],
+    *[trouble(f"ask allow {words}", "allow: expected docker, crun or bwrap behind --for") for words in ("--for", "--for lxc log", "log --for=")],
+    trouble("ask allow --for docker --for crun log", "allow: given twice: --for"),
+    *[good(f"comm -13 <(ask allow --for {name} log | sort) <(ask allow log | sort)", "") for name in ("docker", "runc", "crun", "bwrap")],
+    *[good(f"ask allow --for {name} log | grep -c ' execve allow$'", "1\n") for name in ("docker", "runc", "crun", "bwrap")],
+    *[trouble(f"ask {word} --since-seccomp raw", f"{word}: no option is named --since-seccomp") for word in ("calls", "filter", "when", "lint", "show", "arches", "check")],
     good("ask allow log_of_kernel", "default errno/1 EPERM\n0 read allow\n39 getpid allow\n"),
     Row("ask replay log_of_i386 all", 1, "ask: log_of_i386: line 1 is not understood\n", "1 getpid() allow\n1 line is not understood\n"),
     Row("ask allow log_of_i386", 1, "ask: log_of_i386: 1 line is not understood\n", "default errno/1 EPERM\n39 getpid allow\n"),
@@ -597,15 +625,15 @@ GOOD = [
     good("ask why getpid - < raw", GETPID_PATH), good("ask why getpid <(cat lines)", GETPID_PATH), good("cat raw | ask why getpid /dev/stdin", GETPID_PATH),
     good("ask why getpid all raw", "filter 1\n" + GETPID_STEPS + "filter 0\n" + step(0, "ret 0x7fff0000", 0) + "  allow\nerrno/1 EPERM by filter 1 at 2\n"),
     *[good(f"ask why {asking} | tail -n 1", f"{told}\n") for asking, told in (
-        ("getpid profile_i386", "profile_i386: entry 1 of syscalls decides"), ("read profile_i386", "profile_i386: no entry of syscalls says otherwise than the default"),
-        ("--arch i386 chown32 profile_i386", "profile_i386: entry 2 of syscalls decides"),
+        ("getpid profile_i386", "profile_i386: entry 1 of syscalls in line 1 decides"), ("read profile_i386", "profile_i386: no entry of syscalls says otherwise than the default"),
+        ("--arch i386 chown32 profile_i386", "profile_i386: entry 2 of syscalls in line 1 decides"),
         ("--arch x32 getpid profile_i386", "profile_i386: the profile is not for this architecture"),
         ("--machine x86-64 --arch aarch64 getpid profile_i386", "profile_i386: the profile is not for this architecture"),
         ("--runc 1000 profile_runc", "profile_runc: runc's own instructions decide, which know no such call"),
         ("getpid policy_of_code", "policy_of_code: line 7 decides"), ("read policy_of_code", "policy_of_code: default in line 5 decides"),
         ("--arch i386 read policy_of_code", "policy_of_code: others in line 6 decides"), ("getpid marked_policy", "marked_policy: line 3 decides"),
-        ("getpid profile_i386 raw", "profile_i386: entry 1 of syscalls decides"), ("getpid raw policy_of_code raw", "policy_of_code: line 7 decides"))],
-    good("ask why getpid policy_of_code profile_i386 | tail -n 2", "policy_of_code: line 7 decides\nprofile_i386: entry 1 of syscalls decides\n"),
+        ("getpid profile_i386 raw", "profile_i386: entry 1 of syscalls in line 1 decides"), ("getpid raw policy_of_code raw", "policy_of_code: line 7 decides"))],
+    good("ask why getpid policy_of_code profile_i386 | tail -n 2", "policy_of_code: line 7 decides\nprofile_i386: entry 1 of syscalls in line 1 decides\n"),
     good("ask why 'read(1)' flag", flag_path(1, "!=", 2, "0x00050026", "errno/38 ENOSYS")),
     good("ask why 'read(-1)' flag", flag_path(4294967295, "!=", 2, "0x00050026", "errno/38 ENOSYS")),
     good("ask why 'read(18446744073709551615)' flag", flag_path(4294967295, "!=", 2, "0x00050026", "errno/38 ENOSYS")),

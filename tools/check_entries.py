@@ -8,7 +8,10 @@ capabilities, on the architecture and on the kernel: setupSeccomp of its profile
 entry that does what the default does: matchCall of its libcontainer/seccomp/seccomp_linux.go. Of what is left libseccomp lets
 the first entry without conditions stand for its call, and else asks for the conditions of each: _db_rule_add of its src/db.c.
 
+The line of an entry is found a second time by python's reader of JSON.
+
 Prints each problem, and at last 'N passed, M failed'."""
+import json
 import os
 import subprocess
 import sys
@@ -118,22 +121,35 @@ def said(profile: str, caps: str, name: str, args: tuple[int, ...]) -> str:
     return ran.stdout.splitlines()[-1] if ran.returncode == 0 and ran.stdout else f"status {ran.returncode}: {ran.stderr}"
 
 
-def problem_of(profile: str, caps: str, entries: list[Entry], name: str, args: tuple[int, ...]) -> str | None:
+def lines_of(profile: str) -> list[int]:
+    """The line in which each entry begins, and of those that are alike the first of these."""
+    with open(profile, encoding="utf-8") as file:
+        text = file.read()
+    at, found = text.index("[", text.index('"syscalls"')) + 1, []
+    while text[at] != "]":
+        if text[at] == "{":
+            entry, end = json.JSONDecoder().raw_decode(text, at)
+            found.append((entry, text.count("\n", 0, at) + 1))
+        at = end if text[at] == "{" else at + 1
+    return [next(line for other, line in found if other == entry) for entry, _ in found]
+
+
+def problem_of(profile: str, caps: str, entries: list[Entry], lines: list[int], name: str, args: tuple[int, ...]) -> str | None:
     number = decider(entries, name, args)
-    wanted = "no entry of syscalls says otherwise than the default" if number is None else f"entry {number} of syscalls decides"
+    wanted = f"entry {number} of syscalls in line {lines[number - 1]} decides" if number else "no entry of syscalls says otherwise than the default"
     answer = said(profile, caps, name, args)
     return None if answer == f"{profile}: {wanted}" else f"{caps}: {name}{args}: {answer}, and {wanted}"
 
 
 def check(profile: str, known: set[str]) -> Iterator[str | None]:
     """What is wrong with each answer about a profile."""
-    document = document_of(profile)
+    document, lines = document_of(profile), lines_of(profile)
     names = sorted(known & {name for it in document["syscalls"] for name in it.get("names") or [it["name"]]})
     for caps in CAPS:
         entries = entries_of(document, {"none": set(), "docker": DOCKERS, "all": None}[caps])
         asked = [(name, args) for name in names for args in sorted(arguments(entries, name))]
         with ThreadPoolExecutor() as lanes:
-            yield from lanes.map(lambda it: problem_of(profile, caps, entries, *it), asked)
+            yield from lanes.map(lambda it: problem_of(profile, caps, entries, lines, *it), asked)
 
 
 def main(words: list[str]) -> int:

@@ -165,7 +165,8 @@ def path_text(path: dict) -> str:
 def decision_text(it: dict) -> str:
     match it["by"]:
         case "entry":
-            said = f"entry {it['entry'] + 1} of syscalls decides"
+            at = "" if it["line"] is None else f" in line {it['line']}"
+            said = f"entry {it['entry'] + 1} of syscalls{at} decides"
         case "no_entry":
             said = "no entry of syscalls says otherwise than the default"
         case "no_call":
