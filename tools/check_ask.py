@@ -598,7 +598,7 @@ GOOD = [
     good("ask replay --since-seccomp log_attached all", "1 read(0x3, 0x7ffd, 0x40) allow\n1 getpid() allow\n11 lines are no calls\n"),
     Row("ask replay log_attached --since-seccomp raw | head -n 1", 1, "", "1 getpid() errno/1 EPERM\n"),
     good("ask allow --since-seccomp log_attached", "default errno/1 EPERM\n0 read allow\n39 getpid allow\n"),
-    good("ask allow log_attached | wc -l", "9\n"),
+    good("ask allow log_attached | wc -l", "8\n"),
     *[trouble(f"ask {words}", f"log: {NO_ATTACHMENT}") for words in ("replay --since-seccomp log all", "allow --since-seccomp log", "allow --since-seccomp log_attached log")],
     good("ask allow --to policy --to profile log | tr -d ' \n'; echo", '{"defaultAction":"SCMP_ACT_ERRNO","defaultErrnoRet":1,"architectures":["SCMP_ARCH_X86_64"],'
          '"syscalls":[{"names":["read","getpid"],"action":"SCMP_ACT_ALLOW"}]}\n'),
@@ -653,7 +653,7 @@ GOOD = [
     good("ask arches --help | head -n 1", "usage: ask arches [--json] FILE..\n"),
     good("ask show --help | head -n 1", "usage: ask show [--arch ARCH] FILE\n"), good("ask show two --help | head -n 1", "usage: ask show [--arch ARCH] FILE\n"),
     good("ask why --help | head -n 1", "usage: ask why [--json] [--arch ARCH] 'CALL(ARG, ..)' FILE..\n"),
-    good("ask replay --help | head -n 1", "usage: ask replay [--json] [--arch ARCH] LOG FILE..\n"),
+    good("ask replay --help | head -n 1", "usage: ask replay [--since-seccomp] [--json] [--arch ARCH] LOG FILE..\n"),
     good("ask when --help | head -n 1", "usage: ask when [--call CALL [--dot]] [--only VERDICT] [--numbers] [--json] [--arch ARCH] FILE..\n"),
     warned("ask lint wide | grep -v record", LET_THROUGH), warned("ask lint --numbers wide | grep -v record", LET_THROUGH.replace("AF_NETLINK", "0x10").replace("NETLINK_ROUTE", "0x0")),
     good("ask lint narrow", CLEAN), good("ask lint wide narrow", CLEAN), good("ask lint raw", CLEAN),
