@@ -31,14 +31,14 @@ const WHY: &str =
     \"text\":\"ret 0x7fff0000\",\"code\":6,\"jt\":0,\"jf\":0,\"k\":2147418112,\"a\":39,\"x\":0,\"next\":null}],\
     \"verdict\":{\"value\":2147418112,\"action\":\"allow\",\"data\":0,\"text\":\"allow\"}}],\
     \"verdict\":{\"value\":2147418112,\"action\":\"allow\",\"data\":0,\"text\":\"allow\"},\"source\":{\"filter\":0,\"instruction\":3},\
-    \"entries\":[{\"file\":\"a\\\"b\",\"kind\":\"profile\",\"by\":\"entry\",\"entry\":2,\"line\":null},\
+    \"entries\":[{\"file\":\"a\\\"b\",\"kind\":\"profile\",\"by\":\"entry\",\"entry\":2,\"line\":17},\
     {\"file\":\"c\",\"kind\":\"policy\",\"by\":\"others\",\"entry\":null,\"line\":null}]}\n";
 
 /// What is told of two files that the filter may stand for.
 const DECISIONS: &[Decision<'static>] = &[
     Decision {
         file: "a\"b",
-        decider: Decider::Entry(2),
+        decider: Decider::Entry(2, Some(17)),
     },
     Decision {
         file: "c",
