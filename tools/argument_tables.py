@@ -3,6 +3,7 @@ them with: headers of Linux and of the C library, and pages of the manual."""
 import gzip
 import re
 import subprocess
+from itertools import groupby
 from pathlib import Path
 
 import argument_rows as by_hand
@@ -312,6 +313,17 @@ def arguments_page(calls, rows):
         "| Number | Call | 32 bits | 16 bits | 64 bits | An address |\n|---|---|---|---|---|---|\n" + lines)
 
 
+def runs_of(names):
+    """The runs of names that begin with the same two letters, as the table has them."""
+    runs, first, start = [], 0, 0
+    for _, alike in groupby(names, lambda name: name[:2]):
+        of = list(alike)
+        end = start + len(" ".join(of))
+        runs.append((first, start, end))
+        first, start = first + len(of), end + 1
+    return runs
+
+
 def constants_table(sets, second):
     def part(name, rows, width, of):
         return f"    // {name}\n" + "".join(f"    {it},\n" for it in wrapped([of(it) for it in rows], width, ", "))
@@ -319,10 +331,13 @@ def constants_table(sets, second):
     rows = [*sets.items(), ("read, and never written", second)]
     numbers = "".join(part(name, rows, 96, lambda it: str(it[0])) for name, rows in rows)
     names = text_of([it for _, rows in rows for it in wrapped([name for _, name in rows], WIDTH)], 4, " ")
+    runs = "".join(f"    {run},\n" for run in runs_of([name for _, of in rows for _, name in of]))
     return (
         "//! The constants of Linux 6.12, set by set. `tools/call_arguments` makes the table, and `rt fmt` lays it out.\n"
+        "use crate::runs::Run;\n\n"
         f"/// The numbers.\npub const NUMBERS: &[u32] = &[\n{numbers}];\n\n"
-        f"/// Their names, with a space between each two.\npub const NAMES: &str = {names};\n"
+        f"/// Their names, with a space between each two.\npub const NAMES: &str = {names};\n\n"
+        f"/// Where names stand in that text.\npub const RUNS: &[Run] = &[\n{runs}];\n"
     )
 
 

@@ -1,3 +1,4 @@
+mod Following
 mod Narrow
 mod Named
 pub mod ReadsBack

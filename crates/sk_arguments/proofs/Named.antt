@@ -1,16 +1,17 @@
 -- The name of a number of a set: it is read as that number, and is an identifier of C.
-use Rattle.std.proofs.Common.{◌≡◌, Bor, ℕ, zero, suc, ◌+◌, ◌==◌, ◌&&◌, ◌<◌, ◌-◌, nat_le, List, [], ◌∷◌, drop, get_or, length, Bool, true, false, cond, Option, Some, None, slice_get, position, arith, ap, refl, sym, ◌∙◌}
+use Rattle.std.proofs.Common.{◌≡◌, Bor, ℕ, ◌+◌, ◌==◌, ◌&&◌, ◌<◌, ◌-◌, nat_le, List, [], drop, get_or, length, Bool, true, false, cond, Option, Some, None, slice_get, position, arith, ap, refl, sym, ◌∙◌}
 use Rattle.std.specs.Prelude.{IsTrue, IfSome}
 use Rattle.std.specs.List.{list_all, slice_range}
 use Rattle.std.specs.Option.{option_map}
 use Rattle.std.proofs.lemmas.Bool.{eqb-true, leb-true}
 use Rattle.std.proofs.lemmas.List.{get_or-drop, get_or-take, length-drop, length-take-le}
 use Rattle.std.proofs.lemmas.List.Quantifiers.{position-Some}
-use Rattle.std.proofs.lemmas.Option.{get_or_from_slice_get, option_and_then_some, slice_get-get_or, slice_get_within}
+use Rattle.std.proofs.lemmas.Option.{option_and_then_some, slice_get-get_or}
 use Rattle.sk_arguments.specs.declared.constants.Set.{Set}
 use Rattle.sk_arguments.specs.Constants.{all_names, all_numbers, name_in, number_of_constant, numbers_of, part}
 use Rattle.sk_arguments.specs.Laws.{is_identifier}
-use Rattle.sk_arguments.proofs.ReadsBack.{all_read, both}
+use Rattle.sk_arguments.proofs.Following.{both, one_of}
+use Rattle.sk_arguments.proofs.ReadsBack.{all_read}
 
 -- a number of a part stands in the whole
 in_part : (numbers : List ℕ) (first end place : ℕ) → place < length (part numbers first end) → slice_get numbers (first + place) ≡ Some (get_or (part numbers first end) place 0)
@@ -39,15 +40,6 @@ name_is_read set number name is =
     all_read (set.first + place) number name (in_part all_numbers set.first set.end place first.0 ∙ ap Some same) named)
 
 -- ---- identifiers
-
-one_of : (test : List ℕ → Bool) (names : List (List ℕ)) (k : ℕ) (name : List ℕ) → list_all test names ≡ true → slice_get names k ≡ Some name → test name ≡ true
-one_of test names k name all is =
-    ap test (sym (get_or_from_slice_get names k name [] is)) ∙ at names k all (slice_get_within names k name is)
-  where
-    at : (names : List (List ℕ)) (k : ℕ) → list_all test names ≡ true → k < length names → test (get_or names k []) ≡ true
-    at [] k all less = absurd (omega (arith, less))
-    at (name ∷ names) zero all less = (both (test name) (list_all test names) all).0
-    at (name ∷ names) (suc k) all less = at names k (both (test name) (list_all test names) all).1 (omega (arith, less))
 
 pub all_identifiers : IsTrue (list_all is_identifier all_names)
 unfolding all_names

@@ -1,9 +1,10 @@
 -- Constants that are read as their numbers: where two names are the same, so are their numbers, by computation on the table.
-use Rattle.std.proofs.Common.{◌≡◌, ℕ, zero, suc, ◌+◌, ◌*◌, ◌==◌, ◌&&◌, ◌<◌, List, [], ◌∷◌, get_or, map, length, Bool, false, true, cond, Option, Some, None, slice_get, position, arith, rules, ap, refl, sym, ◌∙◌}
+use Rattle.std.proofs.Common.{◌≡◌, ℕ, zero, suc, ◌+◌, ◌*◌, ◌==◌, ◌&&◌, ◌<◌, List, [], ◌∷◌, get_or, map, length, Bool, true, cond, Option, Some, None, slice_get, position, arith, rules, ap, refl, sym, ◌∙◌}
 use Rattle.std.specs.Option.{option_and_then}
 use Rattle.std.specs.Str.{bytes_eq}
 use Rattle.std.proofs.lemmas.Option.{get_or_from_slice_get, slice_get-get_or, slice_get_within}
 use Rattle.sk_names.proofs.Places.{at, is_at, nowhere}
+use Rattle.sk_arguments.proofs.Following.{both}
 use Rattle.sk_arguments.specs.Constants.{all_names, all_numbers, number_of_constant}
 
 -- ---- names as numbers, which compare at once
@@ -22,10 +23,6 @@ abbrev agree : List ℕ → List ℕ → Bool
 agree [] numbers = true
 agree (c ∷ codes) [] = true
 agree (c ∷ codes) (n ∷ numbers) = same c n codes numbers && agree codes numbers
-
-pub both : (a b : Bool) → (a && b) ≡ true → (a ≡ true) × (b ≡ true)
-both true b h = (refl, h)
-both false b h = cc
 
 same_here : (c d n m : ℕ) → cond (d == c) (m == n) true ≡ true → d ≡ c → m ≡ n
 same_here c d n m h e = search (rules, h, e)

@@ -1,4 +1,5 @@
 pub mod Reading
+pub mod Runs
 pub mod Constants
 pub mod Naming
 pub mod Laws

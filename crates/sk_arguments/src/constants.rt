@@ -2,12 +2,12 @@
 ghost use Rattle.std.specs.Prelude.{◌≡◌, ◌==◌, ◌<◌, IfSome, IsTrue, length, position, slice_get};
 ghost use Rattle.std.specs.Option.{option_map};
 ghost use Rattle.std.specs.Str.{bytes_eq};
-ghost use Rattle.sk_arguments.specs.Reading.{names_in};
 ghost use Rattle.sk_arguments.specs.Laws.{is_identifier};
 ghost use Rattle.sk_arguments.specs.Constants.{all_names, all_numbers, name_in, number_of_constant, numbers_of, part};
 
 use crate::rows::nth;
-use crate::tables::constants::{NAMES, NUMBERS};
+use crate::runs::place_in;
+use crate::tables::constants::{NAMES, NUMBERS, RUNS};
 
 /// Constants of one argument: a part of the table of all.
 #[derive(Clone, Copy, Debug, PartialEq, Eq)]
@@ -84,14 +84,7 @@ fn name_at(place: usize) -> Option<&'static str>
 fn place_named(wanted: &[u8]) -> Option<usize>
     ensures first { result ≡ position (λ name. bytes_eq name wanted.now) all_names }
 {
-    place_in(NAMES, wanted)
-}
-
-// The first place of a name in a text.
-fn place_in(names: &str, wanted: &[u8]) -> Option<usize>
-    ensures first { result ≡ position (λ name. bytes_eq name wanted.now) (names_in names.now) }
-{
-    names.split(' ').position(|name| name.as_bytes() == wanted)
+    place_in(NAMES.as_bytes(), RUNS, wanted)
 }
 
 // The first place of a number.

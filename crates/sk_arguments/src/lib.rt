@@ -9,6 +9,7 @@ pub mod laws;
 mod naming;
 mod reading;
 mod rows;
+mod runs;
 mod tables;
 
 pub use constants::{Set, number_of_constant};
