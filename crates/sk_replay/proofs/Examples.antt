@@ -9,8 +9,8 @@ use Rattle.sk_replay.specs.WordCalls.{plain_number}
 use Rattle.sk_replay.specs.CallWords.{argument_of, negative_number, negative_of, number_in_c, number_or_constant, octal_number, part_of}
 use Rattle.sk_replay.specs.Nests.{behind, ends_argument}
 use Rattle.sk_replay.specs.Values.{bare, is_plain_byte, raw_number, unnamed, value_of, written}
-use Rattle.sk_replay.specs.Lines.{begun_call, call_in, is_event, is_mark, is_mark_byte, is_returned, number_shown, said_at, values_in, whole_call}
-use Rattle.sk_replay.specs.AuditRecords.{audited_call, is_record_type, number_behind}
+use Rattle.sk_replay.specs.Lines.{begun_call, call_in, is_event, is_mark, is_mark_byte, is_returned, number_shown, recorded_of, said_at, values_in, whole_call}
+use Rattle.sk_replay.specs.AuditRecords.{action_in, audited_call, fields_in, is_record_type, is_source, number_behind}
 use Rattle.sk_replay.specs.Modes.{is_other_mode}
 use Rattle.sk_replay.specs.Replaying.{call_text, number_text}
 use Rattle.sk_replay.specs.Since.{effective, process_number, scope_of_call}
@@ -57,7 +57,7 @@ worked_arguments = record {
 }
 
 pub worked_calls : WorkedCalls
-unfolding digits name_of number_named name_at name_in name_on number_at number_in number_on runs_of number_of all_names all_numbers number_of_constant plain_number argument_of negative_number negative_of number_in_c number_or_constant octal_number part_of behind ends_argument bare is_plain_byte raw_number unnamed value_of values_in written begun_call call_in is_event is_mark is_mark_byte is_returned number_shown said_at whole_call is_other_mode is_record_type number_behind audited_call call_text number_text
+unfolding digits name_of number_named name_at name_in name_on number_at number_in number_on runs_of number_of all_names all_numbers number_of_constant plain_number argument_of negative_number negative_of number_in_c number_or_constant octal_number part_of behind ends_argument bare is_plain_byte raw_number unnamed value_of values_in written begun_call call_in is_event is_mark is_mark_byte is_returned number_shown said_at whole_call is_other_mode is_record_type is_source fields_in recorded_of number_behind action_in audited_call call_text number_text
 worked_calls = record {
   on_x86_64 = refl;
   on_i386 = refl;
@@ -104,7 +104,7 @@ worked_calls = record {
 }
 
 pub worked_lines : WorkedLines
-unfolding digits name_of number_named name_at name_in name_on number_at number_in number_on runs_of number_of all_names all_numbers number_of_constant plain_number argument_of negative_number negative_of number_in_c number_or_constant octal_number part_of behind ends_argument bare is_plain_byte raw_number unnamed value_of values_in written begun_call call_in is_event is_mark is_mark_byte is_returned number_shown said_at whole_call is_other_mode is_record_type number_behind audited_call
+unfolding digits name_of number_named name_at name_in name_on number_at number_in number_on runs_of number_of all_names all_numbers number_of_constant plain_number argument_of negative_number negative_of number_in_c number_or_constant octal_number part_of behind ends_argument bare is_plain_byte raw_number unnamed value_of values_in written begun_call call_in is_event is_mark is_mark_byte is_returned number_shown said_at whole_call is_other_mode is_record_type is_source fields_in recorded_of number_behind action_in audited_call
 worked_lines = record {
   mode_64 = refl;
   mode_32 = refl;
@@ -162,11 +162,11 @@ worked_lines = record {
 }
 
 pub worked_logged : WorkedLogged
-unfolding digits name_of number_named name_at name_in name_on number_at number_in number_on runs_of number_of all_names all_numbers number_of_constant plain_number argument_of negative_number negative_of number_in_c number_or_constant octal_number part_of behind ends_argument bare is_plain_byte raw_number unnamed value_of values_in written begun_call call_in is_event is_mark is_mark_byte is_returned number_shown said_at whole_call is_other_mode is_record_type number_behind audited_call
+unfolding digits name_of number_named name_at name_in name_on number_at number_in number_on runs_of number_of all_names all_numbers number_of_constant plain_number argument_of negative_number negative_of number_in_c number_or_constant octal_number part_of behind ends_argument bare is_plain_byte raw_number unnamed value_of values_in written begun_call call_in is_event is_mark is_mark_byte is_returned number_shown said_at whole_call is_other_mode is_record_type is_source fields_in recorded_of number_behind action_in audited_call
 worked_logged = record { rising = refl; once = refl; of_all = refl; without_a_name = refl; no_calls = refl; counted = refl; made = refl; not_made = refl; mixed = refl }
 
 pub worked_since : WorkedSince
-unfolding digits name_of number_named name_at name_in name_on number_at number_in number_on runs_of number_of all_names all_numbers number_of_constant plain_number argument_of negative_number negative_of number_in_c number_or_constant octal_number part_of behind ends_argument bare is_plain_byte raw_number unnamed value_of values_in written begun_call call_in is_event is_mark is_mark_byte is_returned number_shown said_at whole_call is_other_mode is_record_type number_behind audited_call process_number effective scope_of_call
+unfolding digits name_of number_named name_at name_in name_on number_at number_in number_on runs_of number_of all_names all_numbers number_of_constant plain_number argument_of negative_number negative_of number_in_c number_or_constant octal_number part_of behind ends_argument bare is_plain_byte raw_number unnamed value_of values_in written begun_call call_in is_event is_mark is_mark_byte is_returned number_shown said_at whole_call is_other_mode is_record_type is_source fields_in recorded_of number_behind action_in audited_call process_number effective scope_of_call
 worked_since = record {
   behind_it = refl;
   again = refl;

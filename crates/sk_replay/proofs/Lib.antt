@@ -7,9 +7,13 @@ pub mod Tallies
 pub mod Counting
 pub mod Parts
 pub mod Examples
+pub mod RecordExamples
 pub mod Ends
 pub mod Undecided
 pub mod Alike
 pub mod Logging
 pub mod Attached
 pub mod NextLines
+pub mod SeenOrder
+pub mod SeenShown
+pub mod SeenExamples

@@ -1,10 +1,11 @@
 -- One call more in a tally.
-use Rattle.std.proofs.Common.{◌≡◌, ◌≤◌, ◌+◌, ◌∙◌, ap, arith, refl, sym, ℕ, List, [], ◌∷◌, ◌++◌, map, filter, length, ◌==◌, ◌&&◌, ◌||◌, not, true, false, cond, append-nil, inl, inr, true≢false}
+use Rattle.std.proofs.Common.{◌≡◌, ◌≤◌, ◌+◌, ◌∙◌, ap, arith, refl, sym, ℕ, List, [], ◌∷◌, ◌++◌, map, filter, length, ◌==◌, ◌&&◌, ◌||◌, not, true, false, cond, append-nil, inl, inr, true≢false, nat_eq, Bool, Option, Some, None}
 use Rattle.std.proofs.lemmas.Bool.{cases_Bool, and_parts, and_from, eqb-true, eq-eqb}
 use Rattle.std.proofs.lemmas.List.Elements.{filter-append}
 use Rattle.std.proofs.lemmas.List.Sums.{sum_by-append, count_by-le-length}
 use Rattle.std.specs.Cmp.Lexicographic.{pointwise}
 use Rattle.std.specs.List.{count_by, list_any}
+use Rattle.std.specs.Option.{option_eq}
 use Rattle.sk_replay.specs.declared.call.Call.{Call}
 use Rattle.sk_replay.specs.declared.value.Value.{Value}
 use Rattle.sk_replay.specs.declared.value.Value.TheVariants.{Told, Unknown}
@@ -36,19 +37,35 @@ values_self : (a : List Value) → pointwise same_value a a ≡ true
 values_self [] = refl
 values_self (x ∷ a) = and_from (same_value x x) (pointwise same_value a a) (value_self x) (values_self a)
 
+action_is : (a b : Option ℕ) → option_eq nat_eq a b ≡ true → a ≡ b
+action_is None None h = refl
+action_is (Some x) (Some y) h = ap Some (eqb-true x y h)
+action_is None (Some y) h = absurd (true≢false (sym h))
+action_is (Some x) None h = absurd (true≢false (sym h))
+
+action_self : (a : Option ℕ) → option_eq nat_eq a a ≡ true
+action_self None = refl
+action_self (Some x) = eq-eqb x x refl
+
+abbrev same_parts : Call → Call → Bool
+same_parts a b = pointwise same_value a.args b.args && option_eq nat_eq a.logged b.logged
+
 same_is : (a b : Call) → is_same a b ≡ true → a ≡ b
 same_is a b h =
-    let outer = and_parts (a.nr == b.nr) ((a.shown == b.shown) && pointwise same_value a.args b.args) h in
-    let inner = and_parts (a.shown == b.shown) (pointwise same_value a.args b.args) outer.1 in
+    let outer = and_parts (a.nr == b.nr) ((a.shown == b.shown) && same_parts a b) h in
+    let inner = and_parts (a.shown == b.shown) (same_parts a b) outer.1 in
+    let last = and_parts (pointwise same_value a.args b.args) (option_eq nat_eq a.logged b.logged) inner.1 in
     let n = eqb-true a.nr b.nr outer.0 in
     let s = eqb-true a.shown b.shown inner.0 in
-    let r = values_are a.args b.args inner.1 in
-    λ i. record { nr = n i; shown = s i; args = r i }
+    let r = values_are a.args b.args last.0 in
+    let l = action_is a.logged b.logged last.1 in
+    λ i. record { nr = n i; shown = s i; args = r i; logged = l i }
 
 same_self : (a : Call) → is_same a a ≡ true
 same_self a =
-    and_from (a.nr == a.nr) ((a.shown == a.shown) && pointwise same_value a.args a.args) (eq-eqb a.nr a.nr refl)
-    (and_from (a.shown == a.shown) (pointwise same_value a.args a.args) (eq-eqb a.shown a.shown refl) (values_self a.args))
+    and_from (a.nr == a.nr) ((a.shown == a.shown) && same_parts a a) (eq-eqb a.nr a.nr refl)
+    (and_from (a.shown == a.shown) (same_parts a a) (eq-eqb a.shown a.shown refl)
+    (and_from (pointwise same_value a.args a.args) (option_eq nat_eq a.logged a.logged) (values_self a.args) (action_self a.logged)))
 
 same_back : (a b : Call) → is_same a b ≡ true → is_same b a ≡ true
 same_back a b h = ap (is_same b) (same_is a b h) ∙ same_self b

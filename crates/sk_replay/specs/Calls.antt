@@ -1,7 +1,6 @@
 -- Calls of a log, and what a filter sees of them: `struct seccomp_data` of seccomp(2).
-use Rattle.std.specs.Prelude.{ℕ, ◌≡◌, ◌==◌, ◌/◌, ◌+◌, Bool, true, false, List, [], ◌∷◌, length, map, slice_index_or}
+use Rattle.std.specs.Prelude.{ℕ, Bool, true, false, List, [], ◌∷◌, length, map, slice_index_or, Option, None}
 use Rattle.sk_insn.specs.declared.record.Record.{Record}
-use Rattle.sk_insn.specs.Record.{word_of}
 use Rattle.sk_names.specs.declared.architecture.Architecture.{Architecture}
 use Rattle.sk_names.specs.Architectures.{audit_of}
 use Rattle.sk_replay.specs.declared.call.Call.{Call}
@@ -16,11 +15,15 @@ registers args other =
 
 -- the call with these arguments, which a line shows whole: those that are not there are 0
 abbrev pub call_with : ℕ → List Value → Call
-call_with nr args = record { nr = nr; shown = length args; args = registers args (Told 0) }
+call_with nr args = record { nr = nr; shown = length args; args = registers args (Told 0); logged = None }
 
 -- the call that a line begins with these arguments: what stands behind them is not known
 abbrev pub call_begun : ℕ → List Value → Call
-call_begun nr args = record { nr = nr; shown = 6; args = registers args Unknown }
+call_begun nr args = record { nr = nr; shown = 6; args = registers args Unknown; logged = None }
+
+-- the call of a record of the kernel, which shows no argument, and the action that it tells
+abbrev pub call_recorded : ℕ → Option ℕ → Call
+call_recorded nr action = record { nr = nr; shown = 6; args = registers [] Unknown; logged = action }
 
 -- an argument, or 0 where it is not known
 abbrev pub number_or_0 : Value → ℕ

@@ -14,8 +14,11 @@ pub mod Replaying
 pub mod WorkedArguments
 pub mod WorkedCalls
 pub mod WorkedLines
+pub mod WorkedRecords
 pub mod Logged
 pub mod LoggedLaws
 pub mod WorkedLogged
 pub mod Since
 pub mod WorkedSince
+pub mod Seen
+pub mod WorkedSeen

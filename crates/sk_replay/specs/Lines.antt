@@ -3,7 +3,7 @@
 -- lines are audit records.
 use Rattle.std.specs.Prelude.{ℕ, ◌==◌, ◌&&◌, ◌||◌, ◌-◌, ◌^◌, zero, suc, nat_eq, nat_le, Bool, false, if◌then◌else◌, List, [], ◌∷◌, length, take, drop, codes, Option, Some, None, slice_index_or}
 use Rattle.std.specs.Option.{option_or}
-use Rattle.std.specs.List.{list_all, starts_with, ends_with, before_first, after_first}
+use Rattle.std.specs.List.{list_all, starts_with, ends_with, after_first}
 use Rattle.std.specs.Str.{bytes_eq}
 use Rattle.sk_text.specs.Lines.{words_of}
 use Rattle.sk_text.specs.Numbers.{number_of, up_to}
@@ -15,10 +15,12 @@ use Rattle.sk_names.specs.Names.{number_on}
 use Rattle.sk_replay.specs.declared.call.Call.{Call}
 use Rattle.sk_replay.specs.declared.line.LogLine.{LogLine}
 use Rattle.sk_replay.specs.declared.line.LogLine.TheVariants.{Made, Event, Unclear}
+use Rattle.sk_replay.specs.declared.recorded.Recorded.{Recorded}
+use Rattle.sk_replay.specs.declared.recorded.Recorded.TheVariants as recorded
 use Rattle.sk_replay.specs.declared.value.Value.{Value}
 use Rattle.sk_replay.specs.declared.value.Value.TheVariants.{Unknown}
 use Rattle.sk_replay.specs.declared.written.Written.{Written}
-use Rattle.sk_replay.specs.AuditRecords.{audited_call, is_audit_record}
+use Rattle.sk_replay.specs.AuditRecords.{audited_call, fields_in, words_in_front}
 use Rattle.sk_replay.specs.Calls.{call_begun, call_with}
 use Rattle.sk_replay.specs.Modes.{is_other_mode}
 use Rattle.sk_replay.specs.Nests.{end_from, outside}
@@ -138,27 +140,52 @@ made_or (Some call) = Made call
 abbrev pub event_or : Architecture → List ℕ → List (List ℕ) → LogLine
 event_or by word words = if is_other_mode by word words then Unclear else Event
 
--- the call of an audit record, which has its type in front of the first parenthesis, or else of a line of strace
-abbrev pub call_at : Architecture → List ℕ → List (List ℕ) → List ℕ → Option Call
-call_at by word words text =
-    if is_audit_record (word ∷ words) then audited_call by (words_of text) else call_in by word words text
-
 -- from the first word on that is no mark
 unfoldable pub said_at : Architecture → List ℕ → List (List ℕ) → List ℕ → LogLine
-said_at by word words text = if is_event word then event_or by word words else made_or (call_at by word words text)
+said_at by word words text = if is_event word then event_or by word words else made_or (call_in by word words text)
 
 abbrev pub said : Architecture → List (List ℕ) → List ℕ → LogLine
 said by [] text = Unclear
 said by (word ∷ words) text = if is_mark word then said by words text else said_at by word words text
 
--- by its words before the first `(` (40), of which the first may be marks, and what stands behind it
+-- by its words in front of the first parenthesis (40), of which the first may be marks, and what stands behind it
 abbrev pub said_in : Architecture → List ℕ → LogLine
-said_in by line = said by (words_of (before_first (λ byte. byte == 40) line)) (after_first (λ byte. byte == 40) line)
+said_in by line = said by (words_in_front line) (after_first (λ byte. byte == 40) line)
 
 -- spaces (32) alone, or nothing
 abbrev pub is_blank : List ℕ → Bool
 is_blank line = list_all (λ byte. byte == 32) line
 
--- what a line says: a call, an event that is none, such as a line without a word, or nothing that is understood
+-- what a line of strace says: a call, an event that is none, such as a line without a word, or nothing that is understood
+abbrev pub strace_line : Architecture → List ℕ → LogLine
+strace_line by line = if is_blank line then Event else said_in by line
+
+-- ---- records of the kernel
+
+-- the first word that is no mark begins what is no call
+abbrev pub begins_event : List (List ℕ) → Bool
+begins_event [] = false
+begins_event (word ∷ words) = if is_mark word then begins_event words else is_event word
+
+abbrev pub of_or : Option Call → Recorded
+of_or None = recorded.Unclear
+of_or (Some call) = recorded.Of call
+
+-- what the fields of a record tell, or that there are none
+abbrev pub recorded_in : Architecture → Option (List ℕ) → Recorded
+recorded_in by None = recorded.NoRecord
+recorded_in by (Some fields) = of_or (audited_call by (words_of fields))
+
+-- whether a line is a record of the kernel, and the call that it tells of. What strace tells of an event is none
+unfoldable pub recorded_of : Architecture → List ℕ → Recorded
+recorded_of by line = if begins_event (words_in_front line) then recorded.NoRecord else recorded_in by (fields_in line)
+
+-- what a record says, or else what a line of strace does
+abbrev pub said_or : Recorded → LogLine → LogLine
+said_or recorded.NoRecord other = other
+said_or recorded.Unclear other = Unclear
+said_or (recorded.Of call) other = Made call
+
+-- what a line of a log says
 abbrev pub line_of : Architecture → List ℕ → LogLine
-line_of by line = if is_blank line then Event else said_in by line
+line_of by line = said_or (recorded_of by line) (strace_line by line)

@@ -1,15 +1,17 @@
 -- The text of `ask replay`: the verdicts on the calls of a log, which a process of some architecture made.
-use Rattle.std.specs.Prelude.{ℕ, nat_lt, ◌+◌, ◌==◌, ◌||◌, ◌&&◌, not, Bool, false, true, if◌then◌else◌, List, [], ◌∷◌, ◌++◌, length, map, filter, flat_map, take, codes, Option, Some, None}
+use Rattle.std.specs.Prelude.{ℕ, nat_eq, nat_lt, ◌+◌, ◌==◌, ◌||◌, ◌&&◌, not, Bool, false, true, if◌then◌else◌, List, [], ◌∷◌, ◌++◌, length, map, filter, flat_map, take, codes, Option, Some, None}
 use Rattle.std.specs.Bool.{beq}
 use Rattle.std.specs.Fmt.{decimal, radix_digits}
 use Rattle.std.specs.List.{count_by, list_any}
-use Rattle.std.specs.Option.{unwrap_or}
+use Rattle.std.specs.Option.{option_eq, unwrap_or}
 use Rattle.std.specs.Map.{lookup}
 use Rattle.indexmap.specs.IndexMap.{insert_entry}
 use Rattle.std.specs.Cmp.Lexicographic.{pointwise}
 use Rattle.sk_text.specs.Lines.{lines_of}
 use Rattle.sk_insn.specs.declared.insn.Insn.{Insn}
-use Rattle.sk_insn.specs.Actions.{action_of, performs}
+use Rattle.sk_insn.specs.declared.action.Action.{Action}
+use Rattle.sk_insn.specs.declared.action.Action.TheVariants as action
+use Rattle.sk_insn.specs.Actions.{action_name, action_of, performs}
 use Rattle.sk_filter.specs.VerdictText.{verdict_text}
 use Rattle.sk_names.specs.declared.architecture.Architecture.{Architecture}
 use Rattle.sk_names.specs.Names.{name_on}
@@ -79,9 +81,10 @@ same_value (Told a) (Told b) = a == b
 same_value Unknown Unknown = true
 same_value a b = false
 
--- the same number and the same arguments
+-- the same number and the same arguments, and a record tells the same action of both, or none does
 abbrev pub is_same : Call → Call → Bool
-is_same a b = a.nr == b.nr && (a.shown == b.shown && pointwise same_value a.args b.args)
+is_same a b =
+    a.nr == b.nr && (a.shown == b.shown && (pointwise same_value a.args b.args && option_eq nat_eq a.logged b.logged))
 
 -- the calls without those that came before, in the order in which they first came
 abbrev pub each_once : List Call → List Call
@@ -161,10 +164,24 @@ abbrev pub judged_text : Judged → List ℕ
 judged_text (Verdict value) = verdict_text value
 judged_text (Undecided i) = codes "depends on args[" ++ (decimal i ++ codes "], which the log does not show")
 
--- a row: how often, the call, what is said of it
+-- the name of an action, or the number of one that is unknown
+abbrev pub action_text : Action → ℕ → List ℕ
+action_text action.Unknown value = number_text value
+action_text it value = action_name it
+
+-- the action of a value, without its data
+unfoldable pub logged_name : ℕ → List ℕ
+logged_name value = action_text (action_of value) value
+
+-- what a record tells of a call, where it tells an action
+abbrev pub logged_text : Option ℕ → List ℕ
+logged_text None = []
+logged_text (Some value) = codes " (logged: " ++ (logged_name value ++ codes ")")
+
+-- a row: how often, the call, what is said of it, and what the log says
 unfoldable pub row_text : Architecture → Row → List ℕ
 row_text by row =
-    decimal row.times ++ (codes " " ++ (call_text by row.call ++ (codes " " ++ (judged_text row.judged ++ codes "\n"))))
+    decimal row.times ++ (codes " " ++ (call_text by row.call ++ (codes " " ++ (judged_text row.judged ++ (logged_text row.call.logged ++ codes "\n")))))
 
 -- the row, if it is performed, or if it is not
 unfoldable pub one_text : Architecture → Bool → Row → List ℕ

@@ -1,10 +1,10 @@
 -- Lines that are worked out by hand: what strace(1) tells of modes, and the records that audit_seccomp of kernel/auditsc.c writes,
 -- as the logs of auditd(8), dmesg(1), journalctl(1) and syslog have them. The numbers are those of linux/audit.h and asm/unistd.h.
-use Rattle.std.specs.Prelude.{◌≡◌, ◌+◌, ◌-◌, ◌^◌, ◌++◌, [], ◌∷◌, codes}
+use Rattle.std.specs.Prelude.{◌≡◌, ◌+◌, ◌-◌, ◌^◌, ◌++◌, [], ◌∷◌, codes, Some}
 use Rattle.sk_names.specs.declared.architecture.Architecture.TheVariants as architecture
 use Rattle.sk_replay.specs.declared.line.LogLine.TheVariants.{Made, Event, Unclear}
 use Rattle.sk_replay.specs.declared.value.Value.TheVariants.{Told, Unknown}
-use Rattle.sk_replay.specs.Calls.{call_begun, call_with}
+use Rattle.sk_replay.specs.Calls.{call_begun, call_recorded, call_with}
 use Rattle.sk_replay.specs.Lines.{line_of}
 
 pub record WorkedLines : Type 0 where
@@ -25,14 +25,14 @@ pub record WorkedLines : Type 0 where
   pub place : line_of architecture.X86_64 (codes " > /bin/x runs in 32 bit mode. ]") ≡ Event
   pub of_auditd :
       line_of architecture.X86_64 (codes "type=SECCOMP msg=audit(1700000000.123:456): auid=1000 uid=1000 gid=1000 ses=2 subj=unconfined pid=1234 comm=\"x\" exe=\"/bin/x\" sig=31 arch=c000003e syscall=257 compat=0 ip=0x7f1c2a code=0x80000000")
-      ≡ Made (call_begun 257 [])
+      ≡ Made (call_recorded 257 (Some 0x80000000))
   -- a byte 0x1d, and what auditd adds behind it
   pub enriched :
       line_of architecture.X86_64 (codes "type=SECCOMP msg=audit(1700000000.123:456): auid=1000 uid=1000 gid=1000 ses=2 subj=unconfined pid=1234 comm=\"x\" exe=\"/bin/x\" sig=31 arch=c000003e syscall=257 compat=0 ip=0x7f1c2a code=0x80000000" ++ (29 ∷ codes "ARCH=x86_64 SYSCALL=openat AUID=\"x\""))
-      ≡ Made (call_begun 257 [])
+      ≡ Made (call_recorded 257 (Some 0x80000000))
   pub of_dmesg :
       line_of architecture.X86_64 (codes "[ 1234.567890] audit: type=1326 audit(1700000000.123:456): pid=9 arch=c000003e syscall=257 compat=0 ip=0x7f code=0x50000")
-      ≡ Made (call_begun 257 [])
+      ≡ Made (call_recorded 257 (Some 0x50000))
   pub of_dmesg_with_date :
       line_of architecture.X86_64 (codes "[Tue Dec  1 01:02:03 2026] audit: type=1326 audit(1700000000.123:456): pid=9 arch=c000003e syscall=257")
       ≡ Made (call_begun 257 [])

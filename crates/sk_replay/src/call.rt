@@ -1,18 +1,19 @@
 //! Calls as a log writes them.
 ghost use Rattle.std.specs.Prelude.{◌≡◌, map, slice_index_or, take};
-ghost use Rattle.sk_replay.specs.Calls.{call_begun, call_with, is_hidden, is_unknown, number_or_0, record_of, registers};
+ghost use Rattle.sk_replay.specs.Calls.{call_begun, call_recorded, call_with, is_hidden, is_unknown, number_or_0, record_of, registers};
 
 use crate::value::Value;
 use sk_insn::Record;
 use sk_names::Architecture;
 
 /// A call as a log writes it: its number, how many arguments the log shows, and all six. Those behind what a whole call shows
-/// are 0.
+/// are 0. A record of the kernel tells the action of a filter as well, without data.
 #[derive(Clone, Copy, Debug, PartialEq, Eq, Hash)]
 pub struct Call {
     pub nr: u32,
     pub shown: usize,
     pub args: [Value; 6],
+    pub logged: Option<u32>,
 }
 
 impl Call {
@@ -24,6 +25,7 @@ impl Call {
             nr,
             shown: args.len(),
             args: registers(args, Value::Told(0)),
+            logged: None,
         }
     }
 
@@ -35,6 +37,19 @@ impl Call {
             nr,
             shown: 6,
             args: registers(args, Value::Unknown),
+            logged: None,
+        }
+    }
+
+    /// The call of a record that tells this action.
+    pub(crate) fn recorded(nr: u32, action: Option<u32>) -> Call
+        ensures call { result ≡ call_recorded nr action }
+    {
+        Call {
+            nr,
+            shown: 6,
+            args: registers(&[], Value::Unknown),
+            logged: action,
         }
     }
 
@@ -51,7 +66,7 @@ impl Call {
 
     /// What a filter sees of it on an architecture, with 0 for what is not known. No log has the instruction pointer, which is
     /// 0 here.
-    pub(crate) fn record(&self, architecture: Architecture) -> Record
+    pub fn record(&self, architecture: Architecture) -> Record
         ensures record { result ≡ record_of architecture self.now }
     {
         Record {

@@ -28,7 +28,7 @@ const PLACES: [usize; 6] = [0, 1, 2, 3, 4, 5];
 
 impl Judged {
     /// What the chain says of a call.
-    pub(crate) fn of(
+    pub fn of(
         alloc: Global,
         architecture: Architecture,
         chain: &Chain,

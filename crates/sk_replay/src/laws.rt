@@ -6,6 +6,7 @@ ghost use Rattle.sk_replay.specs.WorkedWords.{WorkedWords};
 ghost use Rattle.sk_replay.specs.WorkedArguments.{WorkedArguments};
 ghost use Rattle.sk_replay.specs.WorkedCalls.{WorkedCalls};
 ghost use Rattle.sk_replay.specs.WorkedLines.{WorkedLines};
+ghost use Rattle.sk_replay.specs.WorkedRecords.{WorkedRecords};
 ghost use Rattle.sk_replay.specs.Judging.{VerdictsAreOfAll};
 
 /// The definition gives the calls and the faults that were worked out by hand.
@@ -29,6 +30,11 @@ pub fn worked_calls()
 /// What lines on modes and audit records say, as it was worked out by hand.
 pub fn worked_lines()
     ensures law { WorkedLines }
+{}
+
+/// The records of the kernel and the texts of their actions, as they were worked out by hand.
+pub fn worked_records()
+    ensures law { WorkedRecords }
 {}
 
 /// A verdict that is told of a call is that of every call that the log may mean.

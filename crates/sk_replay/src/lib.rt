@@ -2,6 +2,7 @@
 //! the verdicts on those.
 #![tactic(auto)]
 
+mod action;
 mod answer;
 mod argument;
 mod attaching;
@@ -19,8 +20,11 @@ mod named;
 mod nest;
 mod octal;
 mod quoted;
+mod recorded;
 mod replaying;
 mod row;
+mod seen;
+pub mod seen_laws;
 mod shown;
 mod since;
 mod tally;
@@ -29,6 +33,7 @@ mod value;
 mod word;
 mod written;
 
+pub use action::{push_logged, push_logged_name};
 pub use answer::Replay;
 pub use argument::number_or_constant;
 pub use call::Call;
@@ -37,8 +42,10 @@ pub use judged::Judged;
 pub use logged::{LineCounts, add_logged};
 pub use named::{call_named, plain_number};
 pub use quoted::plain_word;
+pub use recorded::Recorded;
 pub use replaying::replay;
 pub use row::Row;
+pub use seen::{calls_of, seen_numbers};
 pub use since::since_attached;
 pub use text::{push_call, replay_text};
 pub use value::Value;

@@ -2,11 +2,11 @@
 ghost use Rattle.std.specs.Prelude.{◌≡◌, Some, None, codes, nat_eq};
 ghost use Rattle.std.specs.List.{list_all, starts_with};
 ghost use Rattle.sk_text.specs.Lines.{words_of};
-ghost use Rattle.sk_replay.specs.Lines.{begun_call, begun_part, call_at, call_in, call_of, clone_registers, event_or, in_registers, is_answer, is_blank, is_event, is_mark, is_mark_byte, is_returned, is_unfinished, line_of, number_in, number_shown, said, said_at, said_in, unfinished, whole_call};
+ghost use Rattle.sk_replay.specs.Lines.{begun_call, begun_part, call_in, call_of, clone_registers, event_or, in_registers, is_answer, is_blank, is_event, is_mark, is_mark_byte, is_returned, is_unfinished, line_of, number_in, number_shown, said, said_at, said_in, strace_line, unfinished, whole_call};
 
-use crate::audit::{audited_call, is_audit_record};
 use crate::call::{Call, value_at};
 use crate::mode::is_other_mode;
+use crate::recorded::Recorded;
 use crate::shown::Shown;
 use crate::value::Value;
 use crate::written::Written;
@@ -32,11 +32,22 @@ impl LogLine {
     pub(crate) fn of(architecture: Architecture, line: &[u8]) -> LogLine
         ensures line { result ≡ line_of architecture line.now }
     {
-        if is_blank(line) {
-            LogLine::Event
-        } else {
-            said_in(architecture, line)
+        match Recorded::of(architecture, line) {
+            Recorded::NoRecord => strace_line(architecture, line),
+            Recorded::Unclear => LogLine::Unclear,
+            Recorded::Of(call) => LogLine::Made(call),
         }
+    }
+}
+
+// What a line of strace says.
+fn strace_line(architecture: Architecture, line: &[u8]) -> LogLine
+    ensures line { result ≡ strace_line architecture line.now }
+{
+    if is_blank(line) {
+        LogLine::Event
+    } else {
+        said_in(architecture, line)
     }
 }
 
@@ -70,7 +81,7 @@ fn said_at(architecture: Architecture, word: &[u8], words: Words<'_>, text: &[u8
     if is_event(word) {
         return event_or(architecture, word, words);
     }
-    match call_at(architecture, word, words, text) {
+    match call_in(architecture, word, words, text) {
         Some(call) => LogLine::Made(call),
         None => LogLine::Unclear,
     }
@@ -87,20 +98,9 @@ fn event_or(architecture: Architecture, word: &[u8], words: Words<'_>) -> LogLin
     }
 }
 
-// The call of an audit record, or else of a line of strace.
-fn call_at(architecture: Architecture, word: &[u8], words: Words<'_>, text: &[u8]) -> Option<Call>
-    ensures call { result ≡ call_at architecture word.now (words_of words.entry.0.now) text.now }
-{
-    if is_audit_record(word, Words(words.0)) {
-        audited_call(architecture, text)
-    } else {
-        call_in(architecture, word, words, text)
-    }
-}
-
-// Whether a word stands in front of the call: the process, the time, the instruction pointer.
+/// Whether a word stands in front of the call: the process, the time, the instruction pointer.
 #[tactic(auto, unfolding(crate::specs::Lines::is_mark))]
-fn is_mark(word: &[u8]) -> bool
+pub(crate) fn is_mark(word: &[u8]) -> bool
     ensures mark { result ≡ is_mark word.now }
 {
     is_same(word, b"[pid")
@@ -121,9 +121,9 @@ fn is_mark_byte(byte: u8) -> bool
     matches!(byte, b'0'..=b':' | b'.' | b'[' | b']')
 }
 
-// Whether a word begins what is no call.
+/// Whether a word begins what is no call.
 #[tactic(auto, unfolding(crate::specs::Lines::is_event))]
-fn is_event(word: &[u8]) -> bool
+pub(crate) fn is_event(word: &[u8]) -> bool
     ensures event { result ≡ is_event word.now }
 {
     is_same(word, b"+++")

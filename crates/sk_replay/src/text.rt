@@ -3,6 +3,7 @@ ghost use Rattle.std.specs.Prelude.{◌≡◌, ◌++◌, IfOk, OnOk, codes, fals
 ghost use Rattle.sk_names.specs.Names.{name_on};
 ghost use Rattle.sk_replay.specs.Replaying.{argument_text, arguments_text, name_text, number_text, call_text, judged_text, row_text, one_text, part_text, count_text, tally_text};
 
+use crate::action::push_logged;
 use crate::answer::Replay;
 use crate::call::Call;
 use crate::judged::Judged;
@@ -132,6 +133,7 @@ fn push_row(text: &mut String, architecture: Architecture, row: &Row) -> Result<
     push_call(text, architecture, call)?;
     text.push_str(" ")?;
     push_judged(text, judged)?;
+    push_logged(text, &call)?;
     text.push_str("\n")
 }
 
@@ -204,8 +206,9 @@ fn push_argument(text: &mut String, argument: Value) -> Result<(), AllocError>
     }
 }
 
+/// Writes a number as strace(1) does with `-e raw=all`.
 #[tactic(auto, unfolding(crate::specs::Replaying::number_text))]
-fn push_number(text: &mut String, number: u64) -> Result<(), AllocError>
+pub(crate) fn push_number(text: &mut String, number: u64) -> Result<(), AllocError>
     ensures text { OnOk result (string_bytes text.new ≡ string_bytes text.old ++ number_text number) }
 {
     if number == 0 {
