@@ -4,14 +4,19 @@ use Rattle.std.specs.List.{All}
 use Rattle.std.proofs.lemmas.List.{append-nil}
 use Rattle.std.proofs.lemmas.List.Elements.{All-nil, All-cons, All-head, All-tail}
 use Rattle.std.proofs.lemmas.Bool.{cases_Bool}
-use Rattle.sk_insn.specs.Actions.{action_of, allow}
+use Rattle.sk_insn.specs.Actions.{action_of}
 use Rattle.sk_filter.specs.Errors.{error_named, error_number}
 use Rattle.sk_filter.specs.VerdictText.{verdict_text}
+use Rattle.sk_arguments.specs.declared.naming.Naming.{Naming}
 use Rattle.sk_names.specs.declared.architecture.Architecture.{Architecture}
 use Rattle.sk_names.specs.declared.architecture.Architecture.TheVariants as architecture
 use Rattle.sk_names.specs.Architectures.{text_of}
 use Rattle.sk_replay.specs.WordCalls.{plain_number}
 use Rattle.sk_text.specs.Numbers.{number_of}
+use Rattle.sk_when.specs.declared.names.Names.{Names}
+use Rattle.sk_when.specs.declared.row.ConditionalRow.{ConditionalRow}
+use Rattle.sk_when.specs.Naming.{names_of}
+use Rattle.sk_when.specs.WhenText.{when_text}
 use Rattle.std.specs.Fmt.{digits}
 use Rattle.sk_policy_text.specs.declared.sentence.Range.{Range}
 use Rattle.sk_policy_text.specs.declared.sentence.Sentence.{Sentence}
@@ -25,67 +30,28 @@ use Rattle.sk_policy_text.specs.Sentences.{◌>>=◌, Said, Arch, Default, Other
 use Rattle.sk_policy_text.specs.Verdicts.{action_value, data_in, error_in, verdict_of_word}
 use Rattle.sk_policy_text.specs.Views.{said}
 use Rattle.sk_policy_text.specs.Words.{Word, begun, goes_on, is_blank, is_letter_or_digit, is_pair, is_word_byte, placed, words_of_line, words_of_text}
-use Rattle.sk_policy_when.specs.Allowing.{allow_text, allowed_row, arch_line, default_line, refused, rows_text, written_for}
-use Rattle.sk_policy_when.specs.Texts.{AreEnds, AreSentences, IsSayableValue}
+use Rattle.sk_policy_when.specs.Allowing.{allow_text, arch_line, default_line, rows_text, written_for}
+use Rattle.sk_policy_when.specs.Narrowing.{refused}
+use Rattle.sk_policy_when.specs.Texts.{AreRows, AreSentences, IsSayableRow, together}
 use Rattle.sk_policy_when.proofs.Cutting.{AreClean}
-use Rattle.sk_policy_when.proofs.Finding.{nothing_said, saids}
+use Rattle.sk_policy_when.proofs.Finding.{IsRow, nothing_said, rows_rows, saids}
 use Rattle.sk_policy_when.proofs.Sentencing.{BeginsWith, NoComma, ReadsAs, each_sentence, read_both, read_none}
-use Rattle.sk_policy_when.proofs.Texting.{read_line, row_line}
+use Rattle.sk_policy_when.proofs.Texting.{AreAll, read_line, rows_read}
 
 -- ---- the sentences
-
-abbrev pub row_of : ℕ → Said
-row_of nr = Row (record { first = nr; last = nr } ∷ []) (Some allow)
 
 abbrev pub header : Architecture → List Said
 header architecture.X86_64 = []
 header by = Arch by ∷ []
 
-abbrev pub rows_said : List ℕ → List Said
-rows_said numbers = map row_of numbers
-
-abbrev pub all_said : Architecture → List ℕ → List Said
-all_said by numbers = header by ++ (Default refused ∷ rows_said numbers)
+-- the line of all other calls, and the sentences of rows
+abbrev pub all_said : List (List Said) → List Said
+all_said groups = Default refused ∷ together groups
 
 -- ---- a text is these sentences
 
 abbrev Exactly : List Said → List Said → Type 0
 Exactly all what = what ≡ all
-
-said_so : (by : Architecture) (text : List ℕ) (P Q : List Said → Type 0) → ((what : List Said) → P what → Q what) → ReadsAs by text P → ReadsAs by text Q
-said_so by text P Q give reads before number others =
-    let one = reads before number others in
-    record { words = one.words; after = one.after; said = one.said; are = give one.said one.are; each = one.each; lines = one.lines }
-
-read_exactly : (by : Architecture) (text more : List ℕ) (one other : List Said) → ReadsAs by text (Exactly one) → ReadsAs by more (Exactly other) → ReadsAs by (text ++ more) (Exactly (one ++ other))
-read_exactly by text more one other =
-    read_both by text more (Exactly one) (Exactly other) (Exactly (one ++ other)) (λ what others is are. ap (λ l. l ++ others) is ∙ ap (λ l. one ++ l) are)
-
-allowed_sayable : IsSayableValue (Some allow)
-unfolding action_of
-allowed_sayable = (λ h. cc, λ h. cc)
-
-ends_are : (range : Range) (value : ℕ) (what : List Said) → AreEnds range [] (Some value) what → what ≡ Row (range ∷ []) (Some value) ∷ []
-ends_are range value [] are = absurd are
-ends_are range value (Row ranges verdict ∷ []) are = let one = are.0 in let other = are.1 in λ i. Row (one i) (other i) ∷ []
-ends_are range value (Row ranges verdict ∷ other ∷ all) are = absurd are
-ends_are range value (Arch by ∷ all) are = absurd are
-ends_are range value (Default other ∷ all) are = absurd are
-ends_are range value (Others other ∷ all) are = absurd are
-ends_are range value (Case other words ∷ all) are = absurd are
-ends_are range value (Else other ∷ all) are = absurd are
-
-row_read : (by : Architecture) (nr : ℕ) → nr < 2 ^ 32 → ReadsAs by (allowed_row by nr) (Exactly (row_of nr ∷ []))
-unfolding allowed_row
-row_read by nr small =
-    said_so by (allowed_row by nr) (AreEnds (record { first = nr; last = nr }) [] (Some allow)) (Exactly (row_of nr ∷ [])) (ends_are (record { first = nr; last = nr }) allow)
-    (row_line by nr nr allow (omega arith) small allowed_sayable)
-
-rows_read : (by : Architecture) (numbers : List ℕ) → All (λ nr. nr < 2 ^ 32) numbers → ReadsAs by (flat_map (allowed_row by) numbers) (Exactly (rows_said numbers))
-rows_read by [] all = read_none by (Exactly []) refl
-rows_read by (nr ∷ numbers) all =
-    read_exactly by (allowed_row by nr) (flat_map (allowed_row by) numbers) (row_of nr ∷ []) (rows_said numbers)
-    (row_read by nr (All-head (λ n. n < 2 ^ 32) nr numbers all)) (rows_read by numbers (All-tail (λ n. n < 2 ^ 32) nr numbers all))
 
 default_read : (by : Architecture) → ReadsAs by default_line (Exactly (Default refused ∷ []))
 unfolding verdict_text action_of error_named error_number plain_number number_of digits is_blank is_letter_or_digit is_word_byte is_pair goes_on begun data_in action_value verdict_of_word error_in behind_error verdict only_verdict behind_colon line said_by
@@ -112,23 +78,50 @@ arch_read on architecture.Ppc64le = arch_one on architecture.Ppc64le refl (recor
 arch_read on architecture.S390x = arch_one on architecture.S390x refl (record { word = codes "arch"; others = codes "s390x" ∷ []; are = refl; no_sign = refl }) (λ number. refl)
 arch_read on architecture.Loongarch64 = arch_one on architecture.Loongarch64 refl (record { word = codes "arch"; others = codes "loongarch64" ∷ []; are = refl; no_sign = refl }) (λ number. refl)
 
-text_read : (on by : Architecture) (numbers : List ℕ) → All (λ nr. nr < 2 ^ 32) numbers → written_for by ≡ on → ReadsAs on (allow_text by numbers) (Exactly (all_said on numbers))
-unfolding allow_text
-text_read on by numbers all is =
-    subst (λ (other : Architecture). ReadsAs on (rows_text other numbers) (Exactly (all_said on numbers))) (sym is)
-    (read_exactly on (arch_line on) (default_line ++ flat_map (allowed_row on) numbers) (header on) (Default refused ∷ rows_said numbers)
-    (subst (λ (other : Architecture). ReadsAs on (arch_line other) (Exactly (header other))) is (arch_read on by))
-    (read_exactly on default_line (flat_map (allowed_row on) numbers) (Default refused ∷ []) (rows_said numbers) (default_read on) (rows_read on numbers all)))
+-- sentences are those of the policy with these rows
+record AreAllowing (by : Architecture) (rows : List ConditionalRow) (what : List Said) : Type 0 where
+  groups : List (List Said)
+  are : what ≡ header by ++ all_said groups
+  rows_are : AreRows rows groups
 
-sentences_are : (by : Architecture) (numbers : List ℕ) → All (λ nr. nr < 2 ^ 32) numbers
-    → AreSentences (written_for by) (words_of_text (allow_text by numbers)) (all_said (written_for by) numbers)
-sentences_are by numbers all =
+abbrev AreBehind : List ConditionalRow → List Said → Type 0
+AreBehind rows what = (groups : List (List Said)) × (what ≡ all_said groups) × AreRows rows groups
+
+behind_read : (by : Architecture) (names : Names) (rows : List ConditionalRow) → names.architecture ≡ by → All IsSayableRow rows → ReadsAs by (default_line ++ when_text names rows) (AreBehind rows)
+behind_read by names rows is all =
+    read_both by default_line (when_text names rows) (Exactly (Default refused ∷ [])) (AreAll rows) (AreBehind rows)
+    (λ what others one are. (are.0, ap (λ l. l ++ others) one ∙ ap (λ l. Default refused ∷ l) are.1, are.2))
+    (default_read by)
+    (subst (λ (other : Architecture). ReadsAs other (when_text names rows) (AreAll rows)) is (rows_read names rows all))
+
+text_read : (naming : Naming) (on by : Architecture) (rows : List ConditionalRow) → All IsSayableRow rows → written_for by ≡ on → ReadsAs on (allow_text naming by rows) (AreAllowing on rows)
+unfolding allow_text
+text_read naming on by rows all is =
+    subst (λ (other : Architecture). ReadsAs on (rows_text naming other rows) (AreAllowing on rows)) (sym is)
+    (read_both on (arch_line on) (default_line ++ when_text (names_of naming on) rows) (Exactly (header on)) (AreBehind rows) (AreAllowing on rows)
+    (λ what others one are. record { groups = are.0; are = ap (λ l. l ++ others) one ∙ ap (λ l. header on ++ l) are.1; rows_are = are.2 })
+    (subst (λ (other : Architecture). ReadsAs on (arch_line other) (Exactly (header other))) is (arch_read on by))
+    (behind_read on (names_of naming on) rows refl all))
+
+-- the text is sentences of the policy
+record AreSaidOf (naming : Naming) (by : Architecture) (rows : List ConditionalRow) : Type 0 where
+  groups : List (List Said)
+  rows_are : AreRows rows groups
+  are : AreSentences (written_for by) (words_of_text (allow_text naming by rows)) (header (written_for by) ++ all_said groups)
+
+sentences_are : (naming : Naming) (by : Architecture) (rows : List ConditionalRow) → All IsSayableRow rows → AreSaidOf naming by rows
+sentences_are naming by rows all =
     let on = written_for by in
-    let text = allow_text by numbers in
-    let read = text_read on by numbers all refl [] 1 (All-nil (λ (word : Word). NoComma word.text)) in
+    let text = allow_text naming by rows in
+    let read = text_read naming on by rows all refl [] 1 (All-nil (λ (word : Word). NoComma word.text)) in
     let each = each_sentence on read.words read.said read.each in
-    subst (λ (l : List Said). AreSentences on (words_of_text text) l) read.are
-    (subst (λ (l : List Word). AreSentences on l read.said) (sym (ap words_of_text (sym (append-nil text)) ∙ read.lines [])) each)
+    record {
+      groups = read.are.groups;
+      rows_are = read.are.rows_are;
+      are =
+          subst (λ (l : List Said). AreSentences on (words_of_text text) l) read.are.are
+          (subst (λ (l : List Word). AreSentences on l read.said) (sym (ap words_of_text (sym (append-nil text)) ∙ read.lines [])) each);
+    }
 
 -- ---- the first sentence is read alike on each architecture
 
@@ -208,12 +201,20 @@ heard by above words (first ∷ behind) (it ∷ all) on are sentences free =
     let others = heard by (above ++ first ∷ []) _ behind all (still by above first on none) are.1 sentences.1 (All-tail SaysNoArch it all free) in
     (λ i. is i ∷ others i)
 
-rows_free : (numbers : List ℕ) → All SaysNoArch (rows_said numbers)
-rows_free [] = All-nil SaysNoArch
-rows_free (nr ∷ numbers) = All-cons SaysNoArch (row_of nr) (rows_said numbers) tt (rows_free numbers)
+no_arch_of_row : (what : Said) → IsRow what → SaysNoArch what
+no_arch_of_row (Arch by) row = absurd row
+no_arch_of_row (Default value) row = tt
+no_arch_of_row (Others value) row = tt
+no_arch_of_row (Row ranges value) row = tt
+no_arch_of_row (Case value words) row = tt
+no_arch_of_row (Else value) row = tt
 
-behind_free : (numbers : List ℕ) → All SaysNoArch (Default refused ∷ rows_said numbers)
-behind_free numbers = All-cons SaysNoArch (Default refused) (rows_said numbers) tt (rows_free numbers)
+rows_free : (all : List Said) → All IsRow all → All SaysNoArch all
+rows_free [] rows = All-nil SaysNoArch
+rows_free (it ∷ all) rows = All-cons SaysNoArch it all (no_arch_of_row it (All-head IsRow it all rows)) (rows_free all (All-tail IsRow it all rows))
+
+behind_free : (rows : List ConditionalRow) (groups : List (List Said)) → AreRows rows groups → All SaysNoArch (all_said groups)
+behind_free rows groups are = All-cons SaysNoArch (Default refused) (together groups) tt (rows_free (together groups) (rows_rows rows groups are))
 
 -- the first sentence says of which architecture the others are
 heard_behind : (by : Architecture) (words : List Word) (text : List Stated) (all : List Said) → AreSaid [] words text [] → AreSentences by words (Arch by ∷ all) → All SaysNoArch all → saids text ≡ Arch by ∷ all
@@ -240,20 +241,31 @@ header_is architecture.S390x = inr refl
 header_is architecture.Loongarch64 = inr refl
 
 -- the sentences of the text, where it is one of x86-64, or says of which architecture it is
-pub data IsAllowing (by : Architecture) (numbers : List ℕ) (text : List Stated) : Type 0 where
-  of_native : by ≡ architecture.X86_64 → saids text ≡ Default refused ∷ rows_said numbers → IsAllowing by numbers text
-  of_named : saids text ≡ Arch by ∷ (Default refused ∷ rows_said numbers) → IsAllowing by numbers text
+pub data IsHeard (by : Architecture) (groups : List (List Said)) (text : List Stated) : Type 0 where
+  of_native : by ≡ architecture.X86_64 → saids text ≡ all_said groups → IsHeard by groups text
+  of_named : saids text ≡ Arch by ∷ all_said groups → IsHeard by groups text
 
-heard_all : (by : Architecture) (words : List Word) (text : List Stated) (numbers : List ℕ) → AreSaid [] words text [] → AreSentences by words (all_said by numbers) → IsHeader by → IsAllowing by numbers text
-heard_all by words text numbers are sentences (inl plain) =
+heard_all : (by : Architecture) (words : List Word) (text : List Stated) (groups : List (List Said)) → All SaysNoArch (all_said groups) → AreSaid [] words text []
+    → AreSentences by words (header by ++ all_said groups) → IsHeader by → IsHeard by groups text
+heard_all by words text groups free are sentences (inl plain) =
     of_native plain.0
-    (heard by [] words text (Default refused ∷ rows_said numbers) (sym plain.0) are
-    (subst (λ (l : List Said). AreSentences by words (l ++ (Default refused ∷ rows_said numbers))) plain.1 sentences) (behind_free numbers))
-heard_all by words text numbers are sentences (inr named) =
-    of_named
-    (heard_behind by words text (Default refused ∷ rows_said numbers) are
-    (subst (λ (l : List Said). AreSentences by words (l ++ (Default refused ∷ rows_said numbers))) named sentences) (behind_free numbers))
+    (heard by [] words text (all_said groups) (sym plain.0) are (subst (λ (l : List Said). AreSentences by words (l ++ all_said groups)) plain.1 sentences) free)
+heard_all by words text groups free are sentences (inr named) =
+    of_named (heard_behind by words text (all_said groups) are (subst (λ (l : List Said). AreSentences by words (l ++ all_said groups)) named sentences) free)
 
-pub is_allowing : (by : Architecture) (numbers : List ℕ) (text : List Stated) → All (λ nr. nr < 2 ^ 32) numbers → IsText (allow_text by numbers) text → IsAllowing (written_for by) numbers text
-is_allowing by numbers text all is =
-    heard_all (written_for by) (words_of_text (allow_text by numbers)) text numbers is (sentences_are by numbers all) (header_is (written_for by))
+-- and these are the rows
+pub record AreHeard (by : Architecture) (rows : List ConditionalRow) (text : List Stated) : Type 0 where
+  pub groups : List (List Said)
+  pub rows_are : AreRows rows groups
+  pub is : IsHeard by groups text
+
+pub are_heard : (naming : Naming) (by : Architecture) (rows : List ConditionalRow) (text : List Stated) → All IsSayableRow rows → IsText (allow_text naming by rows) text → AreHeard (written_for by) rows text
+are_heard naming by rows text all is =
+    let said = sentences_are naming by rows all in
+    record {
+      groups = said.groups;
+      rows_are = said.rows_are;
+      is =
+          heard_all (written_for by) (words_of_text (allow_text naming by rows)) text said.groups (behind_free rows said.groups said.rows_are) is said.are
+          (header_is (written_for by));
+    }

@@ -20,6 +20,8 @@ pub mod Counting
 pub mod OtherVerdicts
 pub mod Ruled
 pub mod Answering
+pub mod Narrowed
+pub mod NarrowingRows
 mod AllowingSentences
 pub mod Allowed
 pub mod AllowingExamples

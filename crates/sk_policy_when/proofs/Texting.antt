@@ -256,10 +256,10 @@ row_read names told it =
     ends_read names.architecture (constants_of names told.row.first told.row.last) (answers_of told.row.answers) told.row.first told.row.last told.otherwise told.lines.items
     it.rising it.fits it.lines it.otherwise
 
-abbrev AreAll : List ConditionalRow → List Said → Type 0
+abbrev pub AreAll : List ConditionalRow → List Said → Type 0
 AreAll rows said = (groups : List (List Said)) × (said ≡ together groups) × AreRows rows groups
 
-rows_read : (names : Names) (rows : List ConditionalRow) → All IsSayableRow rows → ReadsAs names.architecture (when_text names rows) (AreAll rows)
+pub rows_read : (names : Names) (rows : List ConditionalRow) → All IsSayableRow rows → ReadsAs names.architecture (when_text names rows) (AreAll rows)
 rows_read names [] all = read_none names.architecture (AreAll []) ([], refl, tt)
 rows_read names (told ∷ rows) all =
     read_both names.architecture (row_text names told) (when_text names rows) (AreRow told) (AreAll rows) (AreAll (told ∷ rows))

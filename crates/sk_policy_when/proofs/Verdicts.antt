@@ -42,10 +42,10 @@ tokens_seen [] = refl
 tokens_seen (word ∷ words) = ap (λ l. token_of word.text.now ∷ l) (tokens_seen words)
 
 -- a value, and that sentences say it
-abbrev SaysValue : List Sentence → Record → Option ℕ → Type 0
+abbrev pub SaysValue : List Sentence → Record → Option ℕ → Type 0
 SaysValue sentences call value = (said_value : ℕ) × (value ≡ Some said_value) × SaysCases sentences call said_value
 
-else_says : (it : Sentence) (behind : List Sentence) (call : Record) (value : ℕ) → said it ≡ Else value → SaysCases (it ∷ behind) call value
+pub else_says : (it : Sentence) (behind : List Sentence) (call : Record) (value : ℕ) → said it ≡ Else value → SaysCases (it ∷ behind) call value
 else_says (sentence.Else other) behind call value is = let same : other ≡ value = cc in sym same
 else_says (sentence.Arch by) behind call value is = cc
 else_says (sentence.Default other) behind call value is = cc
@@ -53,7 +53,7 @@ else_says (sentence.Others other) behind call value is = cc
 else_says (sentence.Row ranges other) behind call value is = cc
 else_says (sentence.Case other words) behind call value is = cc
 
-case_says : (it : Sentence) (behind : List Sentence) (call : Record) (value : ℕ) (words : List Word) (line : Line) (told : Option ℕ) → IsWhole call → said it ≡ Case value words
+pub case_says : (it : Sentence) (behind : List Sentence) (call : Record) (value : ℕ) (words : List Word) (line : Line) (told : Option ℕ) → IsWhole call → said it ≡ Case value words
     → AreCondition words line.choices.items → (meets_line line (as_native call) ≡ true → told ≡ Some value)
     → (meets_line line (as_native call) ≡ false → SaysValue behind call told) → SaysValue (it ∷ behind) call told
 case_says (sentence.Case other code) behind call value words line told whole is condition held failed =

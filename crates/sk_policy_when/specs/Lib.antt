@@ -4,5 +4,7 @@ pub mod Texts
 pub mod Smaller
 pub mod OneFilterFaults
 pub mod WorkedSmaller
+pub mod Narrowing
 pub mod Allowing
 pub mod WorkedAllowing
+pub mod WorkedNarrowing

@@ -1,32 +1,37 @@
-//! The least policy that allows calls with some numbers.
-ghost use Rattle.std.specs.Prelude.{◌≡◌, ◌++◌, IfOk, OnOk, flat_map, string_bytes};
-ghost use Rattle.sk_policy_when.specs.Allowing.{allow_text, allowed_row, arch_line, default_line, is_x86_64, written_for};
+//! The least policy that allows some calls.
+ghost use Rattle.std.specs.Prelude.{◌≡◌, ◌++◌, IfOk, OnOk, string_bytes};
+ghost use Rattle.sk_policy_when.specs.Allowing.{allow_text, arch_line, default_line, is_x86_64, written_for};
 
+use sk_arguments::Naming;
 use sk_filter::push_verdict;
 use sk_names::Architecture;
-use sk_show::{name_of_numbers, push_numbers};
+use sk_when::{ConditionalRow, Names, when_text};
 use std::alloc::{AllocError, Global};
-
-/// SECCOMP_RET_ALLOW.
-const ALLOW: u32 = 0x7fff_0000;
 
 /// SECCOMP_RET_ERRNO with EPERM.
 const REFUSED: u32 = 0x0005_0001;
 
-/// The text of the policy that allows the calls of an architecture with these numbers. It is one of x86-64 for x32 too.
+/// The text of the policy that allows what rows say, of calls of an architecture, and refuses all other calls. It is one of x86-64 for
+/// x32 too.
 #[tactic(auto, unfolding(crate::specs::Allowing::allow_text))]
 pub fn allow_text(
     alloc: Global,
+    naming: Naming,
     architecture: Architecture,
-    numbers: &[u32],
+    rows: &[ConditionalRow],
 ) -> Result<String, AllocError>
-    ensures text { IfOk result (λ text. string_bytes text ≡ allow_text architecture numbers.now) }
+    ensures text { IfOk result (λ text. string_bytes text ≡ allow_text naming architecture rows.now) }
 {
     let architecture = written_for(architecture);
     let mut text = String::new(alloc);
     push_arch(&mut text, architecture)?;
     push_default(&mut text)?;
-    push_rows(&mut text, architecture, numbers)?;
+    let names = Names {
+        naming,
+        architecture,
+    };
+    let rows = when_text(alloc, names, rows)?;
+    text.push_str(&rows)?;
     Ok(text)
 }
 
@@ -61,30 +66,5 @@ fn push_default(text: &mut String) -> Result<(), AllocError>
 {
     text.push_str("default ")?;
     push_verdict(text, REFUSED)?;
-    text.push_str("\n")
-}
-
-fn push_rows(
-    text: &mut String,
-    architecture: Architecture,
-    numbers: &[u32],
-) -> Result<(), AllocError>
-    ensures text { OnOk result (string_bytes text.new ≡ string_bytes text.old ++ flat_map (allowed_row architecture) numbers.now) }
-{
-    for number in numbers {
-        push_row(text, architecture, *number)?;
-    }
-    Ok(())
-}
-
-#[tactic(auto, unfolding(crate::specs::Allowing::allowed_row))]
-fn push_row(text: &mut String, architecture: Architecture, number: u32) -> Result<(), AllocError>
-    ensures text { OnOk result (string_bytes text.new ≡ string_bytes text.old ++ allowed_row architecture number) }
-{
-    push_numbers(text, number, number)?;
-    text.push_str(" ")?;
-    text.push_str(name_of_numbers(architecture, number, number))?;
-    text.push_str(" ")?;
-    push_verdict(text, ALLOW)?;
     text.push_str("\n")
 }

@@ -1,6 +1,7 @@
 //! Laws on the rows of `ask when` and policies, and on their texts. The contract of each function is the law.
-ghost use Rattle.sk_policy_when.specs.Allowing.{AllowingFits, AllowingIsPolicy, AllowingLogs, AllowingMakesFilters, AllowingSays};
+ghost use Rattle.sk_policy_when.specs.Allowing.{AllowingFits, AllowingIsPolicy, AllowingIsRight, AllowingLogs, AllowingMakesFilters, AllowingSays, LoggedAreAllowed, NarrowedAreSeen, NoOthersAreAllowed};
 ghost use Rattle.sk_policy_when.specs.WorkedAllowing.{AllowingWorks};
+ghost use Rattle.sk_policy_when.specs.WorkedNarrowing.{NarrowingWorks};
 ghost use Rattle.sk_policy_when.specs.Again.{RowsComeBack, FiltersComeBack, ArchitecturesComeBack, RowsAreRules};
 ghost use Rattle.sk_policy_when.specs.Smaller.{OthersGetOne};
 ghost use Rattle.sk_policy_when.specs.WorkedSmaller.{OthersWork};
@@ -77,32 +78,56 @@ pub fn worked_allowing()
     ensures law { AllowingWorks }
 {}
 
+/// What is allowed of narrowed calls, worked out by hand.
+#[tactic(auto, using(crate::proofs::AllowingExamples::narrowing_works))]
+pub fn worked_narrowing()
+    ensures law { NarrowingWorks }
+{}
+
 /// Whoever reads the least policy of some numbers finds that it allows the calls with these, and no others.
-#[tactic(auto, using(crate::proofs::Allowed::allowing_says))]
 pub fn allowing_says()
     ensures law { AllowingSays }
 {}
 
-/// It is a policy: nothing is wrong with it.
-#[tactic(auto, using(crate::proofs::Allowed::allowing_is_policy))]
+/// No number stands in it twice, and each has a verdict.
 pub fn allowing_is_policy()
     ensures law { AllowingIsPolicy }
 {}
 
-/// Its filter is not too long, if there are not too many numbers.
-#[tactic(auto, using(crate::proofs::Allowed::allowing_fits))]
+/// Nothing is wrong with it, where no number is narrowed.
+pub fn allowing_is_right()
+    ensures law { AllowingIsRight }
+{}
+
+/// Its filter is not too long then, if there are not too many numbers.
 pub fn allowing_fits()
     ensures law { AllowingFits }
 {}
 
 /// And each filter that is made of it allows the calls with these numbers, and no others.
-#[tactic(auto, using(crate::proofs::Allowed::allowing_makes_filters))]
 pub fn allowing_makes_filters()
     ensures law { AllowingMakesFilters }
 {}
 
 /// So a filter that is made of the numbers of logs allows their calls, and no number that none of them has.
-#[tactic(auto, using(crate::proofs::Allowed::allowing_logs))]
 pub fn allowing_logs()
     ensures law { AllowingLogs }
+{}
+
+/// Each call of a log is allowed, whatever stands in what the log does not show of it.
+#[tactic(auto, using(crate::proofs::Narrowed::logged_are_allowed))]
+pub fn logged_are_allowed()
+    ensures law { LoggedAreAllowed }
+{}
+
+/// No call is allowed whose number no log has.
+#[tactic(auto, using(crate::proofs::Narrowed::no_others_are_allowed))]
+pub fn no_others_are_allowed()
+    ensures law { NoOthersAreAllowed }
+{}
+
+/// A narrowed call is allowed only with numbers that calls of a log have.
+#[tactic(auto, using(crate::proofs::Narrowed::narrowed_are_seen))]
+pub fn narrowed_are_seen()
+    ensures law { NarrowedAreSeen }
 {}

@@ -3,10 +3,12 @@
 
 mod allowing;
 pub mod laws;
+mod narrowing;
 mod others;
 mod rules;
 mod smaller;
 
 pub use allowing::allow_text;
+pub use narrowing::allowed_rows;
 pub use others::others_verdict;
 pub use smaller::{OneFilterFault, one_filter};
