@@ -22,6 +22,7 @@ use Rattle.sk_replay.specs.declared.judged.Judged.TheVariants as judged_variants
 use Rattle.sk_replay.specs.declared.row.Row.{Row}
 use Rattle.sk_replay.specs.declared.value.Value.{Value}
 use Rattle.sk_replay.specs.declared.value.Value.TheVariants as value_variants
+use Rattle.sk_replay.specs.Replaying.{logged_name}
 use Rattle.sk_show.specs.declared.tracing.Registers.{Registers}
 use Rattle.sk_show.specs.declared.tracing.Step.{Step}
 use Rattle.sk_show.specs.declared.survey_line.Line as survey
@@ -51,7 +52,7 @@ use Rattle.sk_document.specs.CallsDocument.{answers_at, calls_row, calls_tokens,
 use Rattle.sk_document.specs.ComparisonDocument.{comparison_part, comparison_piece, comparison_pieces, comparison_tokens, kind_at, relation_at}
 use Rattle.sk_document.specs.LintDocument.{concern_at, lint_numbers, lint_part, lint_piece, lint_pieces, lint_tokens, named_part, remark_at, taken, taken_at}
 use Rattle.sk_document.specs.WhenDocument.{lines_at, otherwise_at, rows_at as when_rows_at, when_line, when_row, when_tokens}
-use Rattle.sk_document.specs.ReplayDocument.{judged_at, lines_at as counts_at, made, replay_row, replay_rows_at, replay_tokens, shown_args_at, strace_at, told_verdict, undecided_at, undecided_said, value_said, verdict_at}
+use Rattle.sk_document.specs.ReplayDocument.{judged_at, lines_at as counts_at, logged_at, logged_said, made, replay_row, replay_rows_at, replay_tokens, shown_args_at, strace_at, told_verdict, undecided_at, undecided_said, value_said, verdict_at}
 use Rattle.sk_document.specs.declared.deciding.Decider.{Decider}
 use Rattle.sk_document.specs.Deciding.{decision, decision_of, decisions_at, entry_of, line_of, where_at}
 use Rattle.sk_document.specs.WhyDocument.{asked_at, end_at, filter_path, filter_paths, filters_at, found_in, held_at, insn_at, next_at, outcome_at, path_step, steps_at, why_tokens}
@@ -387,6 +388,13 @@ judged_members : (it : Row) → AreMembers (judged_at it)
 unfolding judged_at
 judged_members it = more_members _ _ (boolean_member _ _) (more_members _ _ (told_member it.judged) (undecided_member it.judged))
 
+logged_is : (action : Option ℕ) → IsValue (logged_said action)
+logged_is action = maybe_is (λ value. said (logged_name value)) (λ value. said_is _) action
+
+logged_member : (action : Option ℕ) → AreMembers (logged_at action)
+unfolding logged_at
+logged_member action = one_member _ _ (logged_is action)
+
 strace_member : (by : Architecture) (it : Call) → AreMembers (strace_at by it)
 unfolding strace_at
 strace_member by it = string_member _ _
@@ -395,7 +403,7 @@ replay_row_is : (by : Architecture) (it : Row) → IsValue (replay_row by it)
 unfolding replay_row
 replay_row_is by it =
     object_is _ (more_members _ _ (number_member _ _) (more_members _ _ (made_members by it.call)
-    (more_members _ _ (judged_members it) (strace_member by it.call))))
+    (more_members _ _ (judged_members it) (more_members _ _ (logged_member it.call.logged) (strace_member by it.call)))))
 
 replay_rows_member : (by : Architecture) (rows : List Row) → AreMembers (replay_rows_at by rows)
 unfolding replay_rows_at
@@ -477,16 +485,18 @@ decisions_member : (decisions : List (List ℕ × Decider)) → AreMembers (deci
 unfolding decisions_at
 decisions_member decisions = one_member _ _ (array_of decision_of (λ it. decision_is it.0 it.1) decisions)
 
-outcome_members : (value : ℕ) (source : Option (ℕ × ℕ)) (decisions : List (List ℕ × Decider)) → AreMembers (outcome_at value source decisions)
+outcome_members : (value : ℕ) (source : Option (ℕ × ℕ)) (decisions : List (List ℕ × Decider)) (logged : Option ℕ)
+    → AreMembers (outcome_at value source decisions logged)
 unfolding outcome_at
-outcome_members value source decisions = more_members _ _ (end_members value source) (decisions_member decisions)
+outcome_members value source decisions logged =
+    more_members _ _ (end_members value source) (more_members _ _ (decisions_member decisions) (logged_member logged))
 
-why_are : (by : Architecture) (programs : List (List Insn)) (call : Record) (source : Option (ℕ × ℕ)) (decisions : List (List ℕ × Decider))
-    → IsValue (why_tokens by programs call source decisions)
+why_are : (by : Architecture) (programs : List (List Insn)) (call : Record) (source : Option (ℕ × ℕ)) (decisions : List (List ℕ × Decider)) (logged : Option ℕ)
+    → IsValue (why_tokens by programs call source decisions logged)
 unfolding why_tokens
-why_are by programs call source decisions =
+why_are by programs call source decisions logged =
     object_is _ (more_members _ _ (word_member _) (more_members _ _ (architecture_member by)
-    (more_members _ _ (asked_member by call) (more_members _ _ (filters_member programs call) (outcome_members _ source decisions)))))
+    (more_members _ _ (asked_member by call) (more_members _ _ (filters_member programs call) (outcome_members _ source decisions logged)))))
 
 -- ---- all of them
 

@@ -21,9 +21,10 @@ use Rattle.sk_document.specs.Verdicts.{judged}
 use Rattle.sk_document.specs.Numbers.{architecture_at, name_at}
 use Rattle.sk_document.specs.Calls.{arguments_at, call, hexadecimal_at, record_at, record_digits, registers, text_at}
 use Rattle.sk_document.specs.Deciding.{decision, decisions_at, where_at}
+use Rattle.sk_document.specs.ReplayDocument.{logged_at}
 use Rattle.sk_document.specs.WhyDocument.{asked_at, end_at, filter_path, filters_at, found_in, held_at, insn_at, next_at, outcome_at, path_step, steps_at, why_tokens}
 use Rattle.sk_document.specs.WorkedWhys.{WhyDocumentWorks}
 
 pub why_works : WhyDocumentWorks
-unfolding digits encode_with json_on_literals argument_text action_of operation_of words_for hex_half hex_word error_named verdict_text name_of name_on call_with_constants all_names all_numbers form_of holds name_in ones_in arguments_text call_text at number_at string_at word_at judged architecture_at name_at arguments_at call hexadecimal_at record_at record_digits registers text_at asked_at end_at filter_path filters_at found_in held_at insn_at next_at path_step steps_at where_at decision decisions_at outcome_at why_tokens
+unfolding digits encode_with json_on_literals argument_text action_of operation_of words_for hex_half hex_word error_named verdict_text name_of name_on call_with_constants all_names all_numbers form_of holds name_in ones_in arguments_text call_text at number_at string_at word_at judged architecture_at name_at arguments_at call hexadecimal_at record_at record_digits registers text_at asked_at end_at filter_path filters_at found_in held_at insn_at next_at path_step steps_at where_at decision decisions_at logged_at outcome_at why_tokens
 why_works = refl

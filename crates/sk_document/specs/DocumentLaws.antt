@@ -41,5 +41,5 @@ pub record DocumentsAreValues : Type 0 where
   pub arches : (told : Told) → IsValue (arches_tokens told)
   pub replay : (architecture : Architecture) (rows : List Row) (events unclear : ℕ) → IsValue (replay_tokens architecture rows events unclear)
   pub why :
-      (architecture : Architecture) (programs : List (List Insn)) (call : Record) (source : Option (ℕ × ℕ)) (decisions : List (List ℕ × Decider))
-      → IsValue (why_tokens architecture programs call source decisions)
+      (architecture : Architecture) (programs : List (List Insn)) (call : Record) (source : Option (ℕ × ℕ)) (decisions : List (List ℕ × Decider)) (logged : Option ℕ)
+      → IsValue (why_tokens architecture programs call source decisions logged)

@@ -1,5 +1,5 @@
 -- What `ask replay` tells, as a document.
-use Rattle.std.specs.Prelude.{ℕ, ◌++◌, List, codes, flat_map, take}
+use Rattle.std.specs.Prelude.{ℕ, ◌++◌, List, codes, flat_map, take, Option}
 use Rattle.std.specs.Fmt.{decimal}
 use Rattle.json.specs.Token.{Token}
 use Rattle.sk_names.specs.declared.architecture.Architecture.{Architecture}
@@ -10,8 +10,8 @@ use Rattle.sk_replay.specs.declared.judged.Judged.TheVariants.{Verdict, Undecide
 use Rattle.sk_replay.specs.declared.row.Row.{Row}
 use Rattle.sk_replay.specs.declared.value.Value.{Value}
 use Rattle.sk_replay.specs.declared.value.Value.TheVariants.{Told, Unknown}
-use Rattle.sk_replay.specs.Replaying.{call_text, is_performed, tally_denies}
-use Rattle.sk_document.specs.Documents.{array, at, boolean_at, document, none, number_at, object, said, string_at, word_at}
+use Rattle.sk_replay.specs.Replaying.{call_text, is_performed, logged_name, tally_denies}
+use Rattle.sk_document.specs.Documents.{array, at, boolean_at, document, maybe, none, number_at, object, said, string_at, word_at}
 use Rattle.sk_document.specs.Verdicts.{verdict}
 use Rattle.sk_document.specs.Numbers.{architecture_at, name_at}
 use Rattle.sk_document.specs.Calls.{hexadecimal_said}
@@ -49,13 +49,21 @@ undecided_at it = at (codes "undecided_by") ++ undecided_said it
 unfoldable pub judged_at : Row → List Token
 judged_at it = boolean_at (codes "performed") (is_performed it) ++ (verdict_at it.judged ++ undecided_at it.judged)
 
+-- the action that a record of the kernel tells, without data: `null` where none tells one
+abbrev pub logged_said : Option ℕ → List Token
+logged_said action = maybe (λ value. said (logged_name value)) action
+
+unfoldable pub logged_at : Option ℕ → List Token
+logged_at action = at (codes "logged") ++ logged_said action
+
 -- a call as strace(1) writes it
 unfoldable pub strace_at : Architecture → Call → List Token
 strace_at by it = string_at (codes "text") (call_text by it)
 
--- a call, how often it was made, and its verdict
+-- a call, how often it was made, its verdict, and what the log says
 unfoldable pub replay_row : Architecture → Row → List Token
-replay_row by it = object (number_at (codes "times") it.times ++ (made by it.call ++ (judged_at it ++ strace_at by it.call)))
+replay_row by it =
+    object (number_at (codes "times") it.times ++ (made by it.call ++ (judged_at it ++ (logged_at it.call.logged ++ strace_at by it.call))))
 
 -- the calls, each once
 unfoldable pub replay_rows_at : Architecture → List Row → List Token

@@ -20,6 +20,7 @@ use Rattle.sk_document.specs.Numbers.{architecture_at}
 use Rattle.sk_document.specs.Calls.{call}
 use Rattle.sk_document.specs.declared.deciding.Decider.{Decider}
 use Rattle.sk_document.specs.Deciding.{decisions_at}
+use Rattle.sk_document.specs.ReplayDocument.{logged_at}
 
 -- the words of an instruction, and its four numbers
 unfoldable pub insn_at : Insn → List Token
@@ -67,26 +68,27 @@ found_in it = object (number_at (codes "filter") it.0 ++ number_at (codes "instr
 unfoldable pub end_at : ℕ → Option (ℕ × ℕ) → List Token
 end_at value source = at (codes "verdict") ++ (verdict value ++ (at (codes "source") ++ maybe found_in source))
 
--- with what decides in the texts that filters are made of
-unfoldable pub outcome_at : ℕ → Option (ℕ × ℕ) → List (List ℕ × Decider) → List Token
-outcome_at value source decisions = end_at value source ++ decisions_at decisions
+-- with what decides in the texts that filters are made of, and the action that a line of the kernel tells
+unfoldable pub outcome_at : ℕ → Option (ℕ × ℕ) → List (List ℕ × Decider) → Option ℕ → List Token
+outcome_at value source decisions logged = end_at value source ++ (decisions_at decisions ++ logged_at logged)
 
 -- the call, with the constants of its arguments
 unfoldable pub asked_at : Architecture → Record → List Token
 asked_at by it = at (codes "call") ++ call (names_of Constants by) it
 
--- the path of a call of an architecture through filters, where the verdict comes from, and what decides in the texts that filters are made of
-unfoldable pub why_tokens : Architecture → List (List Insn) → Record → Option (ℕ × ℕ) → List (List ℕ × Decider) → List Token
-why_tokens by programs call source decisions =
+-- the path of a call of an architecture through filters, where the verdict comes from, what decides in the texts that filters are made of, and
+-- what the kernel did with the call, where its line stands for it
+unfoldable pub why_tokens : Architecture → List (List Insn) → Record → Option (ℕ × ℕ) → List (List ℕ × Decider) → Option ℕ → List Token
+why_tokens by programs call source decisions logged =
     object (word_at (codes "why")
     ++ (architecture_at by
-    ++ (asked_at by call ++ (filters_at programs call ++ outcome_at (verdict_of programs call) source decisions))))
+    ++ (asked_at by call ++ (filters_at programs call ++ outcome_at (verdict_of programs call) source decisions logged))))
 
 -- the text of that
-abbrev pub why_document : Architecture → List (List Insn) → Record → Option (ℕ × ℕ) → List (List ℕ × Decider) → List ℕ
-why_document by programs call source decisions = document (why_tokens by programs call source decisions)
+abbrev pub why_document : Architecture → List (List Insn) → Record → Option (ℕ × ℕ) → List (List ℕ × Decider) → Option ℕ → List ℕ
+why_document by programs call source decisions logged = document (why_tokens by programs call source decisions logged)
 
 -- the document of a chain and a call, whose source is the one of its text
-abbrev pub IsWhyDocument : Architecture → List (List Insn) → Record → List (List ℕ × Decider) → List ℕ → Type 0
-IsWhyDocument by programs call decisions text =
-    (source : Option (ℕ × ℕ)) × IsSource programs call (verdict_of programs call) source × (text ≡ why_document by programs call source decisions)
+abbrev pub IsWhyDocument : Architecture → List (List Insn) → Record → List (List ℕ × Decider) → Option ℕ → List ℕ → Type 0
+IsWhyDocument by programs call decisions logged text =
+    (source : Option (ℕ × ℕ)) × IsSource programs call (verdict_of programs call) source × (text ≡ why_document by programs call source decisions logged)

@@ -1,5 +1,5 @@
 -- A worked document of `ask why`.
-use Rattle.std.specs.Prelude.{ℕ, ◌≡◌, ◌++◌, List, [], ◌∷◌, codes, Some}
+use Rattle.std.specs.Prelude.{ℕ, ◌≡◌, ◌++◌, List, [], ◌∷◌, codes, Some, None}
 use Rattle.sk_names.specs.declared.architecture.Architecture.TheVariants as architecture
 use Rattle.sk_filter.specs.WorkedMeanings.{call_of, refuses_getppid}
 use Rattle.sk_document.specs.declared.deciding.Decider.{Decider}
@@ -18,11 +18,11 @@ why_written =
     ++ (codes "\"verdict\":{\"value\":327681,\"action\":\"errno\",\"data\":1,\"text\":\"errno/1 EPERM\"}}],"
     ++ (codes "\"verdict\":{\"value\":327681,\"action\":\"errno\",\"data\":1,\"text\":\"errno/1 EPERM\"},"
     ++ (codes "\"source\":{\"filter\":0,\"instruction\":2},\"entries\":[{\"file\":\"a\",\"kind\":\"profile\",\"by\":\"entry\",\"entry\":2,\"line\":17},"
-    ++ codes "{\"file\":\"b\",\"kind\":\"policy\",\"by\":\"row\",\"entry\":null,\"line\":12}]}\n"))))))))
+    ++ codes "{\"file\":\"b\",\"kind\":\"policy\",\"by\":\"row\",\"entry\":null,\"line\":12}],\"logged\":null}\n"))))))))
 
 -- two files with one letter for a name
 abbrev pub decisions : List (List ℕ × Decider)
 decisions = (codes "a", Entry 2 (Some 17)) ∷ (codes "b", Row (Some 12)) ∷ []
 
 abbrev pub WhyDocumentWorks : Type 0
-WhyDocumentWorks = why_document architecture.X86_64 (refuses_getppid ∷ []) (call_of 110 0 0) (Some (0, 2)) decisions ≡ why_written
+WhyDocumentWorks = why_document architecture.X86_64 (refuses_getppid ∷ []) (call_of 110 0 0) (Some (0, 2)) decisions None ≡ why_written

@@ -1,15 +1,16 @@
 //! What `ask replay` tells, as a document.
 ghost use Rattle.std.specs.Prelude.{◌≡◌, ◌++◌, codes, flat_map, IfOk, OnOk};
 ghost use Rattle.std.specs.Fmt.{decimal};
+ghost use Rattle.sk_replay.specs.Replaying.{logged_name};
 ghost use Rattle.sk_document.specs.Documents.{said};
-ghost use Rattle.sk_document.specs.ReplayDocument.{judged_at, lines_at, made, replay_document, replay_row, replay_rows_at, replay_tokens, shown_args_at, strace_at, told_verdict, undecided_at, undecided_said, value_said, verdict_at};
+ghost use Rattle.sk_document.specs.ReplayDocument.{judged_at, lines_at, logged_at, logged_said, made, replay_document, replay_row, replay_rows_at, replay_tokens, shown_args_at, strace_at, told_verdict, undecided_at, undecided_said, value_said, verdict_at};
 
 use crate::call::add_hexadecimal;
 use crate::document::Document;
 use crate::numbers::{add_architecture, add_name};
 use crate::verdict::add_verdict;
 use sk_names::{Architecture, name};
-use sk_replay::{Call, Judged, Replay, Row, Value, push_call};
+use sk_replay::{Call, Judged, Replay, Row, Value, push_call, push_logged_name};
 use std::alloc::{AllocError, Global};
 use std::fmt::Write;
 
@@ -84,6 +85,7 @@ fn add_row(to: &mut Document, architecture: Architecture, row: &Row) -> Result<(
     to.number_at("times", row.times)?;
     add_made(to, architecture, row.call)?;
     add_judged_at(to, row)?;
+    add_logged_at(to, row.call.logged)?;
     add_strace_at(to, architecture, row.call)?;
     to.end_object()
 }
@@ -174,6 +176,31 @@ fn add_argument(to: &mut Document, argument: usize) -> Result<(), AllocError>
 {
     let mut text = to.text();
     write!(text, "args[{argument}]")?;
+    to.string(text.as_str())
+}
+
+#[tactic(auto, unfolding(crate::specs::ReplayDocument::logged_at))]
+pub(crate) fn add_logged_at(to: &mut Document, logged: Option<u32>) -> Result<(), AllocError>
+    ensures added { OnOk result (to.new ≡ to.old ++ logged_at logged) }
+{
+    to.at("logged")?;
+    add_logged(to, logged)
+}
+
+fn add_logged(to: &mut Document, logged: Option<u32>) -> Result<(), AllocError>
+    ensures added { OnOk result (to.new ≡ to.old ++ logged_said logged) }
+{
+    match logged {
+        Some(value) => add_logged_name(to, value),
+        None => to.null(),
+    }
+}
+
+fn add_logged_name(to: &mut Document, value: u32) -> Result<(), AllocError>
+    ensures added { OnOk result (to.new ≡ to.old ++ said (logged_name value)) }
+{
+    let mut text = to.text();
+    push_logged_name(&mut text, value)?;
     to.string(text.as_str())
 }
 

@@ -9,6 +9,7 @@ use crate::call::add_call;
 use crate::deciding::{Decision, add_decisions_at};
 use crate::document::Document;
 use crate::numbers::add_architecture;
+use crate::replay::add_logged_at;
 use crate::verdict::add_verdict;
 use sk_arguments::Naming;
 use sk_asm::push_words;
@@ -19,15 +20,17 @@ use sk_show::{Registers, Step, answering, trace};
 use sk_when::Names;
 use std::alloc::{AllocError, Global};
 
-/// Why a call of an architecture gets its verdict of a chain, and what decides on it in the texts that filters were made of.
+/// Why a call of an architecture gets its verdict of a chain, what decides on it in the texts that filters were made of, and what the kernel did
+/// with it, where its line stands for the call.
 pub fn why_document(
     alloc: Global,
     architecture: Architecture,
     chain: &Chain,
     call: &Record,
     decisions: &[Decision<'_>],
+    logged: Option<u32>,
 ) -> Result<Vec<u8>, AllocError>
-    ensures told { IfOk result (λ text. IsWhyDocument architecture chain.now call.now (map pair_of decisions.now) text.items) }
+    ensures told { IfOk result (λ text. IsWhyDocument architecture chain.now call.now (map pair_of decisions.now) logged text.items) }
 {
     let mut document = Document::new(alloc);
     let source = source(chain, call, chain.verdict(call));
@@ -39,6 +42,7 @@ pub fn why_document(
         call,
         source,
         decisions,
+        logged,
     )?;
     document.finished()
 }
@@ -58,15 +62,16 @@ fn add_why(
     call: &Record,
     source: Option<(usize, usize)>,
     decisions: &[Decision<'_>],
+    logged: Option<u32>,
 ) -> Result<(), AllocError>
-    ensures added { OnOk result (to.new ≡ to.old ++ why_tokens architecture chain.now call.now source (map pair_of decisions.now)) }
+    ensures added { OnOk result (to.new ≡ to.old ++ why_tokens architecture chain.now call.now source (map pair_of decisions.now) logged) }
 {
     to.begin_object()?;
     to.word_at("why")?;
     add_architecture(to, architecture)?;
     add_asked_at(to, architecture, *call)?;
     add_filters_at(alloc, to, chain, call)?;
-    add_outcome_at(to, chain.verdict(call), source, decisions)?;
+    add_outcome_at(to, chain.verdict(call), source, decisions, logged)?;
     to.end_object()
 }
 
@@ -76,11 +81,13 @@ fn add_outcome_at(
     verdict: u32,
     source: Option<(usize, usize)>,
     decisions: &[Decision<'_>],
+    logged: Option<u32>,
 ) -> Result<(), AllocError>
-    ensures added { OnOk result (to.new ≡ to.old ++ outcome_at verdict source (map pair_of decisions.now)) }
+    ensures added { OnOk result (to.new ≡ to.old ++ outcome_at verdict source (map pair_of decisions.now) logged) }
 {
     add_end_at(to, verdict, source)?;
-    add_decisions_at(to, decisions)
+    add_decisions_at(to, decisions)?;
+    add_logged_at(to, logged)
 }
 
 #[tactic(auto, unfolding(crate::specs::WhyDocument::asked_at))]
