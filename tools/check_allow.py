@@ -5,7 +5,8 @@ check_allow.py: of logs of strace(1) and of the kernel, those of examples/logs a
 installed. Of each log the policy becomes a filter, by `ask filter`. By `ask replay` the filter performs each call of the log. By
 `ask calls` it allows just the numbers of the log, whose names are read here a second time, and refuses each other one. Where
 this Linux lets a process attach a filter, the command runs again under it, and ends as before. So it does under bubblewrap,
-where that is installed and runs. Where runc runs, a container is traced and runs again under its own profile: that of the calls
+where that is installed and runs. So it does with `--args`, where the calls of NARROWED have only the numbers of the log: each that came
+is allowed, whatever bits stand above those that Linux reads, and another one is not. Where runc runs, a container is traced and runs again under its own profile: that of the calls
 from under the first filter, and that of the program's calls and the runtime's.
 
 Prints what was left out, each problem, and at last 'N passed, M failed'."""
@@ -29,6 +30,8 @@ COMMANDS = [
     ("-f", ["/bin/echo", "allowed"]),
     ("-f -y", ["/bin/ls", "/"]),
     (RAW, ["/bin/sh", "-c", "echo one | cat; exit 3"]),
+    (RAW, ["/bin/ls", "/etc"]),
+    (RAW, ["/usr/bin/git", "--version"]),
     ("-f -tt -T", ["/bin/sh", "-c", "(exit 3) & wait $!"]),
     ("-f -t", ["/usr/bin/env", "sort", "/etc/passwd"]),
     ("-f -r -s 200", ["/bin/date", "-u", "+%Y"]),
@@ -53,6 +56,12 @@ PROGRAM = """#include <stdio.h>
 #include <unistd.h>
 int main(void) { if (fork() == 0) return 3; int status; wait(&status); printf("child %d\\n", WEXITSTATUS(status)); return 0; }
 """
+# Calls with the arguments that are no addresses, and the bits that Linux reads of each: the manual, and int and size_t of C.
+NARROWED = {
+    "openat": {0: 32, 2: 32}, "access": {1: 32}, "fcntl": {0: 32, 1: 32}, "ioctl": {0: 32, 1: 32}, "socket": {0: 32, 1: 32, 2: 32},
+    "prlimit64": {0: 32, 1: 32}, "dup2": {0: 32, 1: 32}, "close": {0: 32}, "lseek": {0: 32, 1: 64, 2: 32},
+}
+SHOWN = re.compile(r"^(?:\d+ +)?(\w+)\((.*?)(?:\)? += .*| <unfinished \.\.\.>)$", re.M)
 SECONDS = 60
 X32 = 1 << 30
 CALL = re.compile(r"^(?:\d+ +)?(?:(?:[\d:.]+|\[[0-9a-f]+\]) +)?(\w+)\(", re.M)
@@ -143,6 +152,42 @@ def check_wrapped(what, command, policy):
     judge((ran.returncode, ran.stdout) == (before.returncode, before.stdout), f"{what}: it runs in a sandbox with the filter as in one without")
 
 
+def arguments_in(log):
+    """The arguments that each line with a call of NARROWED shows, in a log of numbers."""
+    with open(log, encoding="utf-8", errors="replace") as file:
+        found = {}
+        for name, text in SHOWN.findall(file.read()):
+            if name in NARROWED:
+                found.setdefault(name, []).append([int(it, 16) for it in text.split(", ")])
+    return found
+
+
+def check_narrowed(what, log):
+    """Calls of a log of numbers are allowed with the numbers of the log, as far as Linux reads them, and with no others."""
+    found = arguments_in(log)
+    if not found:
+        return b""
+    policy = ask("allow", "--args", ",".join(sorted(found)), log).stdout
+    judge(ask("replay", log, "-", given=policy).returncode == 0, f"{what}: each call of the log is allowed with its arguments")
+    told = ask("filter", "-", given=policy).stdout
+
+    def verdict(name, arguments):
+        return ask("why", f"{name}({', '.join(map(hex, arguments))})", "-", given=told).stdout.splitlines()[-1].split(b" by ")[0]
+
+    for name, calls in sorted(found.items()):
+        for i, bits in NARROWED[name].items():
+            # A call that has not returned may show fewer.
+            if any(len(call) <= i for call in calls):
+                continue
+            came = {call[i] % (1 << bits) for call in calls}
+            other = next(it for it in range(7, 7 + len(came) + 1) if it not in came)
+            one = [*calls[0][:i], other, *calls[0][i + 1:]]
+            judge(verdict(name, one) == b"errno/1 EPERM", f"{what}: {name} is refused with {other} as argument {i + 1}")
+            wide = [*calls[0][:i], calls[0][i] | (5 << bits if bits < 64 else 0), *calls[0][i + 1:]]
+            judge(verdict(name, wide) == b"allow", f"{what}: {name} is allowed whatever stands above {bits} bits of argument {i + 1}")
+    return policy
+
+
 def check_log(what, log):
     made = ask("allow", log)
     judge(made.returncode == 0 and not made.stderr, f"{what}: ask allow answers")
@@ -161,11 +206,12 @@ def check_command(folder, number, options, command, attaches, wraps):
         return
     check_log(what, log)
     # The filter stands before the command's execve, which is in the log; what attaches it goes on in between.
-    policy = ask("allow", log).stdout
-    if attaches:
-        check_again(what, command, policy, before)
-    if wraps:
-        check_wrapped(what, command, policy)
+    narrowed = check_narrowed(what, log) if options == RAW else b""
+    for policy in filter(None, (ask("allow", log).stdout, narrowed)):
+        if attaches:
+            check_again(what, command, policy, before)
+        if wraps:
+            check_wrapped(what, command, policy)
 
 
 def contained(folder, name, profile, *before):

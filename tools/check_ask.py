@@ -169,6 +169,10 @@ FILES = {
     "log_ends": b"7 +++ exited with 0 +++\n",
     "log_of_kernel": b'[ 8.5] audit: type=1326 audit(1796.2:3): auid=0 pid=9 comm="x" exe="/bin/x" sig=31 arch=c000003e syscall=39 compat=0 ip=0x7f code=0x50001\n'
                      b'type=SECCOMP msg=audit(1796.2:4): auid=0 pid=9 comm=6120622063 sig=0 arch=c000003e syscall=0 compat=0 ip=0x7f code=0x7ffc0000\n',
+    "log_of_journal": b'Dec 01 11:00:00 host audit[9]: SECCOMP auid=0 pid=9 comm="a(b" exe="/bin/x" sig=31 arch=c000003e syscall=39 compat=0 ip=0x7f code=0x80000000\n'
+                      b'7 write(2, "audit[9]: SECCOMP arch=c000003e syscall=1", 3) = 3\n',
+    "log_with_flags": b'7 openat(AT_FDCWD, "a", O_RDONLY|O_CLOEXEC) = 3\n7 openat(AT_FDCWD, "b", O_WRONLY|O_CREAT, 0644) = 3\n7 openat(AT_FDCWD, "c", O_RDONLY|O_CLOEXEC) = 3\n'
+                      b'7 socket(AF_UNIX, SOCK_STREAM, 0) = 4\n7 fcntl(3, F_GETFD) = 0\n7 fcntl(4, F_SETFD, FD_CLOEXEC) = 0\n7 getpid() = 7\n',
     "log_of_i386": b'type=1326 audit(1796.2:3): pid=9 arch=40000003 syscall=20 compat=1 ip=0x7f code=0x0\n9 getpid() = 9\n',
     "log_of_modes": b'[ Process PID=9 runs in 32 bit mode. ]\n9 getpid() = 9\n',
     "log_decoded": b'7 read(3, "ab", 64) = 2\n7 close(3) = 0\n',
@@ -275,8 +279,8 @@ WORDS_OF_ASK = ["calls", "filter", "when", "diff", "expect", "lint", "replay", "
 OPTIONS = {
     "--help": WORDS_OF_ASK, "--arch": [it for it in WORDS_OF_ASK if it not in ("filter", "lint", "arches", "page")],
     **{it: WORDS_OF_ASK for it in ("--cap", "--kernel", "--machine", "--native", "--runc", "--strict")},
-    "--numbers": ["when", "diff", "expect", "lint", "page"], "--json": [it for it in WORDS_OF_ASK if it not in ("filter", "allow", "show", "check", "page")], "--call": ["calls", "when"], "--only": ["calls", "when"], "--examples": ["calls"], "--to": ["filter", "allow"],
-    "--raw": ["filter"], "--smaller": ["filter"], "--dot": ["when"], "--stricter": ["diff"], "--all": ["lint"], "--old": ["page"], "--since-seccomp": ["replay", "allow"], "--for": ["allow"],
+    "--numbers": ["when", "diff", "expect", "lint", "allow", "page"], "--json": [it for it in WORDS_OF_ASK if it not in ("filter", "allow", "show", "check", "page")], "--call": ["calls", "when"], "--only": ["calls", "when"], "--examples": ["calls"], "--to": ["filter", "allow"],
+    "--raw": ["filter"], "--smaller": ["filter"], "--dot": ["when"], "--stricter": ["diff"], "--all": ["lint"], "--old": ["page"], "--since-seccomp": ["replay", "allow"], "--for": ["allow"], "--args": ["allow"],
 }
 # Capabilities by their numbers, architectures, and machines whose programs profiles are for.
 with open("/usr/include/linux/capability.h", encoding="ascii") as header:
@@ -593,7 +597,8 @@ GOOD = [
     good("ask replay log_decoded all", "1 read(0x3, ?, 0x40) allow\n1 close(0x3) allow\n"),
     Row("ask replay log_decoded second | head -n 1", 1, "", "1 read(0x3, ?, 0x40) depends on args[1], which the log does not show\n"),
     good("ask replay log_crlf all", "1 getpid() allow\n"),
-    Row("ask replay log_of_kernel raw", 1, "", "1 getpid(?, ?, ?, ?, ?, ?) errno/1 EPERM\n1 read(?, ?, ?, ?, ?, ?) allow\n"),
+    Row("ask replay log_of_kernel raw", 1, "", "1 getpid(?, ?, ?, ?, ?, ?) errno/1 EPERM (logged: errno)\n1 read(?, ?, ?, ?, ?, ?) allow (logged: log)\n"),
+    good("ask replay log_of_journal all", "1 getpid(?, ?, ?, ?, ?, ?) allow (logged: kill_process)\n1 write(0x2, ?, 0x3) allow\n"),
     # What has no filter yet, or never gets one, is left out; an option's word has its names.
     good("ask replay --since-seccomp log_attached all", "1 read(0x3, 0x7ffd, 0x40) allow\n1 getpid() allow\n11 lines are no calls\n"),
     Row("ask replay log_attached --since-seccomp raw | head -n 1", 1, "", "1 getpid() errno/1 EPERM\n"),
@@ -618,9 +623,20 @@ GOOD = [
     good("ask allow log_of_kernel", "default errno/1 EPERM\n0 read allow\n39 getpid allow\n"),
     Row("ask replay log_of_i386 all", 1, "ask: log_of_i386: line 1 is not understood\n", "1 getpid() allow\n1 line is not understood\n"),
     Row("ask allow log_of_i386", 1, "ask: log_of_i386: 1 line is not understood\n", "default errno/1 EPERM\n39 getpid allow\n"),
-    good("ask replay --arch i386 log_of_i386 all", "1 getpid(?, ?, ?, ?, ?, ?) allow\n1 getpid() allow\n"),
+    good("ask replay --arch i386 log_of_i386 all", "1 getpid(?, ?, ?, ?, ?, ?) allow (logged: kill_thread)\n1 getpid() allow\n"),
     Row("ask replay log_of_modes all", 1, "ask: log_of_modes: line 1 is not understood\n", "1 getpid() allow\n1 line is not understood\n"),
     good("ask replay --arch i386 log_of_modes all", "1 getpid() allow\n1 line is no call\n"),
+    # A line of the kernel stands for its call, of which it has no argument.
+    good('ask why "$(head -n 1 log_of_kernel)" raw', GETPID_PATH + "logged: errno\n"),
+    good('ask why "$(head -n 1 log_of_journal)" raw', GETPID_PATH + "logged: kill_process\n"),
+    good("ask why 'type=SECCOMP msg=audit(1): arch=c000003e syscall=39' raw", GETPID_PATH),
+    good("ask why 'type=1326 audit(1): arch=c000003e syscall=39 code=0x12345' raw | tail -n 1", "logged: 0x12345\n"),
+    good("ask why --arch i386 \"$(head -n 1 log_of_i386)\" all | tail -n 1", "logged: kill_thread\n"),
+    *[trouble(f"ask why '{line}' raw", "why: the kernel's line has no arch= and syscall= of a call of this architecture: x86-64") for line in (
+        "type=1326 audit(1): arch=40000003 syscall=20 code=0x0", "type=1326 audit(1): arch=c000003e code=0x0", "type=1326 audit(1): arch=c000003e syscall=1 syscall=2",
+        "audit[9]: SECCOMP arch=40000003 syscall=20", "type=1326", "audit[9]: SECCOMP arch=c000003e syscall=1073741824")],
+    *[trouble(f'ask why "$(tail -n 1 log_of_kernel)" {name}', "why: the kernel's line does not show the argument that the verdict depends on: write the call with its arguments: "
+        f"args[{i}]") for name, i in (("argument", 0), ("second", 1), ("every_word", 0))],
     *[good(f"ask why '{call}' raw", GETPID_PATH) for call in ("getpid", "getpid()", "39", "0x27( )", "getpid(1, -1, 0xff)", " getpid ( 1 ) ")],
     good("ask why getpid - < raw", GETPID_PATH), good("ask why getpid <(cat lines)", GETPID_PATH), good("cat raw | ask why getpid /dev/stdin", GETPID_PATH),
     good("ask why getpid all raw", "filter 1\n" + GETPID_STEPS + "filter 0\n" + step(0, "ret 0x7fff0000", 0) + "  allow\nerrno/1 EPERM by filter 1 at 2\n"),

@@ -36,6 +36,8 @@ SIGNS = {0x10: ("!=", "=="), 0x20: ("<=", ">"), 0x30: ("<", ">="), 0x40: ("&", "
 # The name of a call, which a text has behind the number that A is compared with.
 COMPARED_NAME = re.compile(r"(?<=\d) [a-z_0-9]+(?=: to \d+\n)")
 LOG = os.path.join(ROOT, "examples/logs/true.strace")
+KERNEL_LOG = os.path.join(ROOT, "examples/logs/true.dmesg")
+RECORD = 'audit[9]: SECCOMP pid=9 comm="x" sig=31 arch=c000003e syscall=39 compat=0 ip=0x7f code=0x80000000'
 EXPECTATIONS = os.path.join(ROOT, "examples/policies/service.expect")
 SOURCES = [os.path.join(ROOT, it) for it in ("examples/profiles/service.json", "examples/policies/service.policy")]
 # What is trouble: words, and what stands on standard error.
@@ -132,7 +134,8 @@ def count_text(count: int, kind: str) -> str:
 
 def judged_text(row: dict) -> str:
     """The verdict on a call of a log, or the argument that it depends on."""
-    return f"depends on {row['undecided_by']}, which the log does not show" if row["verdict"] is None else row["verdict"]["text"]
+    told = f"depends on {row['undecided_by']}, which the log does not show" if row["verdict"] is None else row["verdict"]["text"]
+    return told if row["logged"] is None else f"{told} (logged: {row['logged']})"
 
 
 def replay_text(document: dict) -> str:
@@ -182,8 +185,9 @@ def decision_text(it: dict) -> str:
 
 def why_text(document: dict) -> str:
     source = document["source"]
+    logged = "" if document["logged"] is None else f"logged: {document['logged']}\n"
     by = "" if source is None else f" by filter {source['filter']} at {source['instruction']}"
-    return "".join(map(path_text, document["filters"])) + f"{document['verdict']['text']}{by}\n" + "".join(map(decision_text, document["entries"]))
+    return "".join(map(path_text, document["filters"])) + f"{document['verdict']['text']}{by}\n" + "".join(map(decision_text, document["entries"])) + logged
 
 
 def text_of(document: dict, words: list[str]) -> str:
@@ -281,7 +285,7 @@ def questions(files: list[str]) -> list[list[str]]:
         found += [["when", file], ["when", "--numbers", file], ["when", "--call", "socket", "--call", "personality", file], ["when", "--arch", "i386", file]]
         found += [["lint", file], ["lint", "--all", file], ["lint", "--all", "--numbers", file], ["arches", file]]
         found += [["expect", EXPECTATIONS, file], ["expect", "--numbers", EXPECTATIONS, file]]
-        found += [["replay", LOG, file], ["replay", "--arch", "i386", LOG, file]]
+        found += [["replay", LOG, file], ["replay", "--arch", "i386", LOG, file], ["replay", KERNEL_LOG, file]]
         found += [["why", it, file] for it in ("getpid", "clone(0x10000000)", "openat(AT_FDCWD, \"/etc\", O_RDONLY)", "socket(AF_NETLINK, 3, 9)", "1000")]
         found += [["why", "--arch", it, "read(3)", file] for it in ("i386", "aarch64")]
     for source in SOURCES:
@@ -290,7 +294,7 @@ def questions(files: list[str]) -> list[list[str]]:
     for old, new in itertools.permutations(files, 2):
         found += [["diff", old, new], ["diff", "--stricter", "--numbers", old, new]]
     return [*found, ["diff", files[0], files[0]], ["diff", "--arch", "aarch64", files[0], files[-1]], ["when", *files], ["calls", *files], ["arches", *files],
-            ["replay", LOG, *files], ["why", "clone(0x10000000)", *files], ["why", "read", files[0], *SOURCES]]
+            ["replay", LOG, *files], ["why", "clone(0x10000000)", *files], ["why", "read", files[0], *SOURCES], *(["why", RECORD, it] for it in SOURCES)]
 
 
 def main() -> int:

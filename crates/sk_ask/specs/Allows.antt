@@ -1,13 +1,20 @@
 -- What `ask allow` tells.
-use Rattle.std.specs.Prelude.{ℕ, ◌≡◌, ◌⊎◌, ◌==◌, ◌++◌, not, Bool, if◌then◌else◌, List, [], ◌∷◌, map, codes, Option, Some, None, Result, Ok, Err, ⊤}
+use Rattle.std.specs.Prelude.{ℕ, ◌≡◌, ◌⊎◌, ◌==◌, ◌++◌, not, Bool, if◌then◌else◌, List, [], ◌∷◌, length, map, find, codes, Option, Some, None, Result, Ok, Err, ⊤}
+use Rattle.std.specs.Bool.{MatchBool}
 use Rattle.std.specs.Fmt.{decimal}
 use Rattle.std.specs.List.{list_any}
 use Rattle.sk_names.specs.declared.architecture.Architecture.{Architecture}
+use Rattle.sk_names.specs.declared.architecture.Architecture.TheVariants as architecture
+use Rattle.sk_arguments.specs.declared.naming.Naming.{Naming}
 use Rattle.sk_text.specs.Lines.{lines_of}
+use Rattle.sk_show.specs.Text.{name_text}
+use Rattle.sk_replay.specs.declared.call.Call.{Call}
 use Rattle.sk_replay.specs.declared.logged.LineCounts.{LineCounts}
-use Rattle.sk_replay.specs.Logged.{calls_in, numbers_in, numbers_with}
+use Rattle.sk_replay.specs.Logged.{calls_in, is_among, numbers_in, numbers_with}
 use Rattle.sk_replay.specs.Replaying.{unclear_in}
-use Rattle.sk_policy_when.specs.Allowing.{allow_text, is_x86_64}
+use Rattle.sk_policy_when.specs.Allowing.{allow_text, is_x86_64, logged_calls}
+use Rattle.sk_policy_when.specs.Narrowing.{AreAllowedRows, allowed_rows}
+use Rattle.sk_when.specs.declared.row.ConditionalRow.{ConditionalRow}
 use Rattle.sk_profile_json.specs.Writing.{first_unnamed, profile_text}
 use Rattle.sk_ask.specs.declared.runtime.Runtime.{Runtime}
 use Rattle.sk_ask.specs.declared.target.Grant.{Grant}
@@ -61,18 +68,58 @@ abbrev pub profiled : List ℕ → Option ℕ → Result (List ℕ) (List ℕ)
 profiled numbers (Some nr) = Err (unnamed_line nr)
 profiled numbers None = Ok (profile_text numbers)
 
--- the policy that allows them, or the profile, which is written of calls of x86-64 alone
-abbrev pub granted : Architecture → Grant → List ℕ → Result (List ℕ) (List ℕ)
-granted by Policy numbers = Ok (allow_text by numbers)
-granted by Profile numbers =
-    if is_x86_64 by then profiled numbers (first_unnamed numbers)
+-- what is said where the arguments of a call are wanted, and its runtime makes it too
+abbrev pub own_line : ℕ → List ℕ
+own_line nr =
+    of_word (codes "allow: the runtime makes this call itself, with arguments that no log shows: --args ") (name_text architecture.X86_64 nr nr)
+
+-- the first of some calls that a runtime makes itself
+abbrev pub own_call : Architecture → Option Runtime → List ℕ → Option ℕ
+own_call by runtime narrowed = find (λ nr. is_among nr (with_runtime by runtime [])) narrowed
+
+-- a policy has rows that allow these calls, and no others
+abbrev pub IsPolicyText : Naming → Architecture → List ℕ → List ℕ → List Call → Result (List ℕ) (List ℕ) → Type 0
+IsPolicyText naming by numbers narrowed calls said =
+    (rows : List ConditionalRow) × AreAllowedRows (allowed_rows numbers narrowed calls) rows × (said ≡ Ok (allow_text naming by rows))
+
+abbrev pub IsNarrowedOr : Naming → List ℕ → List ℕ → List (List ℕ) → Option ℕ → Result (List ℕ) (List ℕ) → Type 0
+IsNarrowedOr naming numbers narrowed logs (Some nr) said = said ≡ Err (own_line nr)
+IsNarrowedOr naming numbers narrowed logs None said =
+    IsPolicyText naming architecture.X86_64 numbers narrowed (logged_calls architecture.X86_64 logs) said
+
+-- the policy that allows calls with these numbers, and some of them with the arguments of logs alone
+abbrev pub IsPolicy : Naming → Architecture → Option Runtime → List ℕ → List ℕ → List (List ℕ) → Result (List ℕ) (List ℕ) → Type 0
+IsPolicy naming by runtime numbers narrowed logs said =
+    MatchBool (length narrowed == 0) (IsPolicyText naming by numbers [] [] said)
+    (MatchBool (is_x86_64 by) (IsNarrowedOr naming numbers narrowed logs (own_call by runtime narrowed) said)
+    (said ≡ Err (of_word (codes "allow: arguments are those of calls of x86-64 alone: ") (codes "--args"))))
+
+-- the profile has no conditions, and is written of calls of x86-64 alone
+abbrev pub profile_of : Architecture → List ℕ → List ℕ → Result (List ℕ) (List ℕ)
+profile_of by numbers narrowed =
+    if not (length narrowed == 0) then Err (of_word (codes "allow: a profile is written without conditions: ") (codes "--args"))
+    else if is_x86_64 by then profiled numbers (first_unnamed numbers)
     else Err (of_word (codes "allow: a profile is written of calls of x86-64 alone: ") (codes "--to profile"))
+
+abbrev pub IsGrantedAs : Grant → Naming → Architecture → Option Runtime → List ℕ → List ℕ → List (List ℕ) → Result (List ℕ) (List ℕ) → Type 0
+IsGrantedAs Policy naming by runtime numbers narrowed logs said = IsPolicy naming by runtime numbers narrowed logs said
+IsGrantedAs Profile naming by runtime numbers narrowed logs said = said ≡ profile_of by numbers narrowed
+
+-- what allows the calls of logs, and those of the runtime
+abbrev pub IsGranted : Naming → Architecture → Allowing → List ℕ → List (List ℕ) → Result (List ℕ) (List ℕ) → Type 0
+IsGranted naming by asks narrowed logs said =
+    IsGrantedAs asks.grant naming by asks.runtime (with_runtime by asks.runtime (numbers_in by logs)) narrowed logs said
 
 -- the line of that is told
 abbrev pub IsRefusal : Result (List ℕ) (List ℕ) → Trouble → Type 0
 IsRefusal said (Refused line) = said ≡ Err line.items
 IsRefusal said (Reading line) = ⊥
 IsRefusal said Memory = ⊤
+
+abbrev pub IsRefusalOf : (Result (List ℕ) (List ℕ) → Type 0) → Trouble → Type 0
+IsRefusalOf P (Refused line) = P (Err line.items)
+IsRefusalOf P (Reading line) = ⊥
+IsRefusalOf P Memory = ⊤
 
 -- ---- the answer
 
@@ -82,15 +129,16 @@ answered_or notes denies (Err line) = refused line
 
 -- there is no answer where a log has no call. Else it allows the calls of all logs, and those of the runtime: no where a line is not
 -- understood, since it may be a call
-abbrev pub allowed_or : Architecture → Allowing → List (List ℕ) → List (List ℕ) → Option (List ℕ) → Ending
-allowed_or by asks names logs (Some name) = refused (about name no_call_text)
-allowed_or by asks names logs None =
-    answered_or (unclear_notes names (map (counts_of by) logs)) (some_unclear (map (counts_of by) logs))
-    (granted by asks.grant (with_runtime by asks.runtime (numbers_in by logs)))
+abbrev pub IsAllowedOr : Naming → Architecture → Allowing → List ℕ → List (List ℕ) → List (List ℕ) → Option (List ℕ) → Ending → Type 0
+IsAllowedOr naming by asks narrowed names logs (Some name) ending = ending ≡ refused (about name no_call_text)
+IsAllowedOr naming by asks narrowed names logs None ending =
+    (said : Result (List ℕ) (List ℕ)) × IsGranted naming by asks narrowed logs said
+    × (ending ≡ answered_or (unclear_notes names (map (counts_of by) logs)) (some_unclear (map (counts_of by) logs)) said)
 
 -- the answer to logs with these names
-abbrev pub allowed : Architecture → Allowing → List (List ℕ) → List (List ℕ) → Ending
-allowed by asks names logs = allowed_or by asks names logs (without_call names (map (counts_of by) logs))
+abbrev pub IsAllowed : Naming → Architecture → Allowing → List ℕ → List (List ℕ) → List (List ℕ) → Ending → Type 0
+IsAllowed naming by asks narrowed names logs ending =
+    IsAllowedOr naming by asks narrowed names logs (without_call names (map (counts_of by) logs)) ending
 
 -- what is so of the logs in the files with these names, of at most 268435456 bytes each; or the first that is not read is not
 abbrev pub OfLogs : (List ℕ → Held) → List (List ℕ) → Ending → (List (List ℕ) → Type 0) → Type 0

@@ -11,14 +11,14 @@ use Rattle.sk_ask.specs.declared.printing.Printing.{Printing}
 use Rattle.sk_ask.specs.declared.word.Word.{Word}
 use Rattle.sk_ask.specs.declared.word.Word.TheVariants.{Calls, Filter, When, Diff, Expect, Lint, Replay, Allow, Why, Show, Arches, Check, Page}
 use Rattle.sk_ask.specs.Asking.{Question, asked_of, asks_help, asks_version, manner_of, naming_asked, nothing_asked, printing_asked, word_named}
-use Rattle.sk_ask.specs.Allows.{OfLogs, allowed}
+use Rattle.sk_ask.specs.Allows.{IsAllowed, OfLogs}
 use Rattle.sk_ask.specs.Arches.{TellsArches}
 use Rattle.sk_ask.specs.Architectures.{architecture_of}
 use Rattle.sk_ask.specs.Calls.{OfCalls}
 use Rattle.sk_ask.specs.CallsText.{TellsSurvey}
 use Rattle.sk_ask.specs.Checks.{Checks}
 use Rattle.sk_ask.specs.Contexts.{IsContextOf}
-use Rattle.sk_ask.specs.Endings.{Ending, answered, refused, ComesTo}
+use Rattle.sk_ask.specs.Endings.{Ending, answered, refused, ComesTo, MayEnd}
 use Rattle.sk_ask.specs.Diffs.{IsDiff}
 use Rattle.sk_ask.specs.Expects.{OfDemands, IsExpectOf}
 use Rattle.sk_ask.specs.Helping.{help_text, version_text, word_help_text}
@@ -56,7 +56,7 @@ AnswersQuestion held may_spend asked context over by calls naming printing (Repl
     OfFirst names ending (λ name others. OfLog held name ending (λ log. OfJudged since by name log ending (λ text.
     over others ending (λ read. ComesTo (replayed printing by name text read.chain read.notes) ending))))
 AnswersQuestion held may_spend asked context over by calls naming printing (Allow asks) names ending =
-    OfLogs held names ending (λ logs. OfAllJudged asks.since by names logs ending (λ texts. ComesTo (allowed by asks names texts) ending))
+    OfLogs held names ending (λ logs. OfAllJudged asks.since by names logs ending (λ texts. MayEnd (IsAllowed naming by asks calls names texts) ending))
 AnswersQuestion held may_spend asked context over by calls naming printing Why names ending =
     OfFirst names ending (λ word others. OfMeant by word others ending (λ meant.
     over others ending (λ read. TellsWhyOf printing by meant context others read ending)))

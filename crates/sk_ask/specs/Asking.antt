@@ -27,7 +27,7 @@ use Rattle.sk_ask.specs.declared.target.Grant.{Grant as Granted}
 use Rattle.sk_ask.specs.declared.target.Grant.TheVariants.{Policy}
 use Rattle.sk_ask.specs.declared.target.Target.{Target}
 use Rattle.sk_ask.specs.declared.target.Target.TheVariants.{Lines, Raw}
-use Rattle.sk_ask.specs.declared.word.Valued.TheVariants.{Call, Only, Cap, Kernel, Machine, Arch, To, Grant, For, Old}
+use Rattle.sk_ask.specs.declared.word.Valued.TheVariants.{Call, Args, Only, Cap, Kernel, Machine, Arch, To, Grant, For, Old}
 use Rattle.sk_ask.specs.declared.word.TheConstants.{OPTIONS}
 use Rattle.sk_ask.specs.declared.word.Allowing.{Allowing}
 use Rattle.sk_ask.specs.declared.word.Word.{Word}
@@ -127,6 +127,7 @@ is_option text = slice_index text 0 == 45 && nat_lt 1 (length text)
 
 abbrev pub valued_name : Valued → List ℕ
 valued_name Call = codes "--call"
+valued_name Args = codes "--args"
 valued_name Only = codes "--only"
 valued_name Cap = codes "--cap"
 valued_name Kernel = codes "--kernel"
@@ -140,6 +141,7 @@ valued_name Old = codes "--old"
 -- what is expected behind one
 abbrev pub value_kind : Valued → List ℕ
 value_kind Call = codes "a name or a number"
+value_kind Args = codes "a name or a number"
 value_kind Only = codes "a verdict as allow or errno/1"
 value_kind Cap = codes "a name"
 value_kind Kernel = codes "a version as 6.1"
@@ -207,12 +209,14 @@ valued_named word text =
     else if writes_filters word && bytes_eq text (codes "--to") then Some To
     else if allows word && bytes_eq text (codes "--to") then Some Grant
     else if allows word && bytes_eq text (codes "--for") then Some For
+    else if allows word && bytes_eq text (codes "--args") then Some Args
     else if may_compare word && bytes_eq text (codes "--old") then Some Old
     else None
 
 -- there may be several calls, verdicts and capabilities, the last form is the one that is wanted, and there is one runtime and one old filter
 abbrev pub is_given : Valued → Question → Bool
 is_given Call asked = false
+is_given Args asked = false
 is_given Only asked = false
 is_given Cap asked = false
 is_given Kernel asked = is_some asked.kernel
@@ -252,6 +256,14 @@ with_each_cap asked (name ∷ names) = elim (with_caps asked name (capability na
   | Err line ↦ Err line
   | Ok more ↦ with_each_cap more names
 ]
+
+abbrev pub with_call : Question → List ℕ → Question
+with_call asked name = record asked { calls = asked.calls ++ name ∷ []; awaits = None }
+
+-- several stand between commas
+abbrev pub with_calls : Question → List (List ℕ) → Question
+with_calls asked [] = asked
+with_calls asked (name ∷ names) = with_calls (with_call asked name) names
 
 abbrev pub with_only : Question → Option Sought → Result Question (List ℕ)
 with_only asked None = Err (expected_line asked.word Only)
@@ -314,7 +326,8 @@ with_runtime asked (Some runtime) = Ok (record asked { word = for_runtime runtim
 
 -- the word behind it
 abbrev pub with_value : Valued → Question → List ℕ → Result Question (List ℕ)
-with_value Call asked text = Ok (record asked { calls = asked.calls ++ text ∷ []; awaits = None })
+with_value Call asked text = Ok (with_calls asked (slice_split is_comma text))
+with_value Args asked text = Ok (with_calls asked (slice_split is_comma text))
 with_value Only asked text = with_only asked (sought_named text)
 with_value Cap asked text = with_each_cap asked (slice_split is_comma text)
 with_value Kernel asked text = with_kernel asked (kernel_meant text)
@@ -356,6 +369,7 @@ tells_conditions (Diff stricter) = true
 tells_conditions Expect = true
 tells_conditions (Lint all) = true
 tells_conditions (Page is) = true
+tells_conditions (Allow asks) = true
 tells_conditions word = false
 
 -- what these tell can be told by one JSON document

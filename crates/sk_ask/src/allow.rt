@@ -2,14 +2,16 @@
 ghost use Rattle.std.specs.Prelude.{◌≡◌, ◌++◌, ℕ, [], IfOk, IfErr, OnOk, Ok, map, string_bytes};
 ghost use Rattle.std.specs.Option.{option_map};
 ghost use Rattle.sk_replay.specs.Logged.{numbers_in};
-ghost use Rattle.sk_policy_when.specs.Allowing.{is_x86_64};
 ghost use Rattle.sk_profile_json.specs.Writing.{first_unnamed};
-ghost use Rattle.sk_ask.specs.Allows.{IsRefusal, OfLogs, allowed, counts_of, granted, profiled, some_unclear, unclear_note, unclear_notes, unclear_text, unnamed_line, with_runtime, without_call};
+ghost use Rattle.sk_ask.specs.Allows.{IsAllowed, IsGrantedAs, IsRefusal, IsRefusalOf, OfLogs, counts_of, profile_of, profiled, some_unclear, unclear_note, unclear_notes, unclear_text, unnamed_line, with_runtime, without_call};
 ghost use Rattle.sk_ask.specs.Since.{OfAllJudged};
 ghost use Rattle.sk_ask.specs.Counts.{CountsReads};
-ghost use Rattle.sk_ask.specs.Endings.{ComesTo, ending_of};
+ghost use Rattle.sk_ask.specs.Endings.{MayEnd, ending_of};
 
+use crate::analysis::Analysis;
 use crate::answer::Answer;
+use crate::narrowing::{is_x86_64, policy_of};
+use crate::on::On;
 use crate::replay::NO_CALL;
 use crate::runtime::Runtime;
 use crate::shelf::contents;
@@ -17,8 +19,8 @@ use crate::since::all_judged;
 use crate::target::Grant;
 use crate::word::Allowing;
 use crate::{MOST_LOG_BYTES, Shelf, Trouble, about, of_word};
+use sk_arguments::Naming;
 use sk_names::Architecture;
-use sk_policy_when::allow_text;
 use sk_profile_json::profile_text;
 use sk_replay::{LineCounts, add_logged};
 use std::alloc::{AllocError, Global};
@@ -27,37 +29,44 @@ use std::collections::BTreeSet;
 /// What is said where a profile is asked for of another architecture.
 const ONLY_X86_64: &str = "allow: a profile is written of calls of x86-64 alone: ";
 
+/// What is said where conditions are wanted in a profile.
+const NO_CONDITIONS: &str = "allow: a profile is written without conditions: ";
+
 /// What is said where a call has no name, by which a profile would have it.
 const NO_NAME: &str =
     "allow: a profile has calls by their names, and none of x86-64 has the number ";
 
 /// The answer to the logs in the files with these names.
-pub fn allow_answer<S: Shelf>(
+pub fn allow_answer<S: Shelf, A: Analysis>(
     alloc: Global,
     names: &[String],
     shelf: &S,
-    architecture: Architecture,
+    on: On<'_, A>,
     asks: Allowing,
+    narrowed: &[u32],
     reads: &mut u64,
 ) -> Result<Answer, Trouble>
     ensures told { OfLogs (S.held shelf.now) (map string_bytes names.now) (ending_of result) (λ logs.
-        OfAllJudged asks.since architecture (map string_bytes names.now) logs (ending_of result) (λ texts.
-        ComesTo (allowed architecture asks (map string_bytes names.now) texts) (ending_of result))) }
+        OfAllJudged asks.since on.entry.architecture (map string_bytes names.now) logs (ending_of result) (λ texts.
+        MayEnd (IsAllowed on.entry.naming on.entry.architecture asks narrowed.now (map string_bytes names.now) texts) (ending_of result))) }
     ensures counted { CountsReads result reads.old reads.new }
 {
+    let (naming, architecture) = (on.naming, on.architecture);
     let logs = contents(alloc, shelf, reads, names, MOST_LOG_BYTES)?;
     let texts = all_judged(alloc, asks.since, architecture, names, logs)?;
-    allowed(alloc, architecture, asks, names, &texts)
+    allowed(alloc, naming, architecture, asks, narrowed, names, &texts)
 }
 
 fn allowed(
     alloc: Global,
+    naming: Naming,
     architecture: Architecture,
     asks: Allowing,
+    narrowed: &[u32],
     names: &[String],
     logs: &[Vec<u8>],
 ) -> Result<Answer, Trouble>
-    ensures told { ComesTo (allowed architecture asks (map string_bytes names.now) (map (λ log. log.items) logs.now)) (ending_of result) }
+    ensures told { MayEnd (IsAllowed naming architecture asks narrowed.now (map string_bytes names.now) (map (λ log. log.items) logs.now)) (ending_of result) }
     ensures unread { (reads : ℕ) → CountsReads result reads reads }
 {
     let mut numbers = BTreeSet::new(alloc);
@@ -68,14 +77,14 @@ fn allowed(
     add_runtime(&mut numbers, architecture, asks.runtime)?;
     let numbers = listed(alloc, &numbers)?;
     Ok(Answer {
-        text: granted(alloc, architecture, asks.grant, &numbers)?,
+        text: granted(alloc, naming, architecture, asks, &numbers, narrowed, logs)?,
         notes: unclear_notes(alloc, names, &counts)?,
         denies: some_unclear(&counts),
     })
 }
 
-// Puts the numbers of a runtime's own calls among those that are there.
-fn add_runtime(
+/// Puts the numbers of a runtime's own calls among those that are there.
+pub(crate) fn add_runtime(
     numbers: &mut BTreeSet<u32>,
     architecture: Architecture,
     runtime: Option<Runtime>,
@@ -88,28 +97,53 @@ fn add_runtime(
     Ok(())
 }
 
-// The text that allows calls with these numbers.
+// The text that allows calls with these numbers, and some of them with the arguments of logs alone.
 fn granted(
     alloc: Global,
+    naming: Naming,
     architecture: Architecture,
-    grant: Grant,
+    asks: Allowing,
     numbers: &[u32],
+    narrowed: &[u32],
+    logs: &[Vec<u8>],
 ) -> Result<Vec<u8>, Trouble>
-    ensures text { IfOk result (λ text. granted architecture grant numbers.now ≡ Ok text.items) }
-    ensures refused { IfErr result (IsRefusal (granted architecture grant numbers.now)) }
+    ensures text { IfOk result (λ text.
+        IsGrantedAs asks.grant naming architecture asks.runtime numbers.now narrowed.now (map (λ log. log.items) logs.now) (Ok text.items)) }
+    ensures refused { IfErr result (IsRefusalOf
+        (IsGrantedAs asks.grant naming architecture asks.runtime numbers.now narrowed.now (map (λ log. log.items) logs.now))) }
     ensures unread { (reads : ℕ) → CountsReads result reads reads }
 {
-    match grant {
-        Grant::Policy => Ok(allow_text(alloc, architecture, numbers)?.into_bytes()),
-        Grant::Profile if is_x86_64(architecture) => profiled(alloc, numbers),
-        Grant::Profile => Err(Trouble::Refused(of_word(alloc, ONLY_X86_64, b"--to profile")?)),
+    match asks.grant {
+        Grant::Policy => policy_of(
+            alloc,
+            naming,
+            architecture,
+            asks.runtime,
+            numbers,
+            narrowed,
+            logs,
+        ),
+        Grant::Profile => profile_of(alloc, architecture, numbers, narrowed),
     }
 }
 
-fn is_x86_64(architecture: Architecture) -> bool
-    ensures is { result ≡ is_x86_64 architecture }
+fn profile_of(
+    alloc: Global,
+    architecture: Architecture,
+    numbers: &[u32],
+    narrowed: &[u32],
+) -> Result<Vec<u8>, Trouble>
+    ensures text { IfOk result (λ text. profile_of architecture numbers.now narrowed.now ≡ Ok text.items) }
+    ensures refused { IfErr result (IsRefusal (profile_of architecture numbers.now narrowed.now)) }
+    ensures unread { (reads : ℕ) → CountsReads result reads reads }
 {
-    matches!(architecture, Architecture::X86_64)
+    if !narrowed.is_empty() {
+        return Err(Trouble::Refused(of_word(alloc, NO_CONDITIONS, b"--args")?));
+    }
+    if !is_x86_64(architecture) {
+        return Err(Trouble::Refused(of_word(alloc, ONLY_X86_64, b"--to profile")?));
+    }
+    profiled(alloc, numbers)
 }
 
 fn profiled(alloc: Global, numbers: &[u32]) -> Result<Vec<u8>, Trouble>
@@ -149,8 +183,8 @@ fn counts_of(
     Ok(counts)
 }
 
-// The numbers in their order.
-fn listed(alloc: Global, numbers: &BTreeSet<u32>) -> Result<Vec<u32>, AllocError>
+/// The numbers in their order.
+pub(crate) fn listed(alloc: Global, numbers: &BTreeSet<u32>) -> Result<Vec<u32>, AllocError>
     ensures listed { IfOk result (λ list. list.items ≡ numbers.now.keys) }
 {
     let mut list = Vec::new(alloc);

@@ -13,8 +13,8 @@ pub const HELP: &str = "usage: ask WORD ..
   ask expect POLICY FILE..                      the calls whose verdicts are not as a policy expects
   ask lint [--all] FILE..                       the calls that get another verdict by bits that Linux does not read
   ask replay LOG FILE..                         the verdicts on the calls that strace -f -o LOG COMMAND or the kernel wrote
-  ask allow LOG..                               the least policy that allows the calls of such logs
-  ask why 'CALL(ARG, ..)' FILE..                the path of one call through the filters, instruction by instruction
+  ask allow [--args CALL,..] LOG..              the least policy that allows the calls of such logs
+  ask why 'CALL(ARG, ..)' FILE..                the path of one call through the filters, or of that in a line of the kernel
   ask show FILE                                 one filter for people, as a text that skern asm takes
   ask arches FILE..                             what the filters answer to calls of each architecture
   ask check FILE..                              whether Linux takes the filters, or the first fault of one
@@ -24,7 +24,7 @@ pub const HELP: &str = "usage: ask WORD ..
 All but filter, arches and check are about the calls of x86-64, or, with --arch ARCH, about those of another architecture: x32,
 i386, aarch64, arm, riscv64, ppc64le, s390x or loongarch64. lint is about those of x86-64 and x32 alone, page about those of
 x86-64, and expect, where no ARCH is given, about those that its POLICY tells of. Names and numbers are those that calls have there.
-when, diff, expect, lint and page write numbers by the constants of Linux's headers, and with --numbers as they are. With --json
+when, diff, expect, lint, allow and page write numbers by the constants of Linux's headers, and with --numbers as they are. With --json
 calls, when, diff, expect, lint, replay, why and arches print one JSON document.
 FILE holds raw struct sock_filter, hexadecimal digits, lines filter HEX, a filter in another form, a policy as when writes one, or a
 seccomp profile of docker's or podman's kind in JSON, which may stand in a container's config.json, in a SeccompProfile or in what
@@ -148,7 +148,8 @@ The calls in LOG, which strace -f -o LOG COMMAND wrote: each once, with how ofte
 FILEs, those first that are not performed; then how many lines are no calls, or are not understood. Of an argument that LOG shows as
 a text, a structure or a name that no table has, ? is written; where the verdict depends on one, its number stands in the verdict's
 place. strace -f -X raw -e raw=all -o LOG COMMAND shows each argument as a number. LOG may have lines that the kernel wrote too, with
-type=1326 or type=SECCOMP, as auditd, dmesg and journalctl print them: of such a call the number alone is known.
+type=1326, type=SECCOMP or audit[PID]: SECCOMP, as dmesg, auditd and journalctl print them: of such a call the number alone is known,
+and what the kernel did with it, which stands behind the verdict as (logged: kill_process).
   --since-seccomp
                 only calls of processes that have a filter, from where seccomp or prctl attaches it; other lines count as no calls. A
                 process that first comes behind that line has it too, and with SECCOMP_FILTER_FLAG_TSYNC all have
@@ -160,9 +161,13 @@ A FILE may be a profile, and then --cap, --kernel, --machine, --native, --runc a
 
 /// What `ask allow --help` says.
 pub const ALLOW_HELP: &str =
-    "usage: ask allow [--since-seccomp] [--for RUNTIME] [--to policy|profile] [--arch ARCH] LOG..
-The least policy that allows the calls in the LOGs, which strace -f -o LOG COMMAND wrote, or the kernel, in lines with type=1326 or
-type=SECCOMP: a row for each number of a call, in rising order, and EPERM for all other calls. ask filter makes the filter of it.
+    "usage: ask allow [--args CALL,..] [--numbers] [--since-seccomp] [--for RUNTIME] [--to policy|profile] [--arch ARCH] LOG..
+The least policy that allows the calls in the LOGs, which strace -f -o LOG COMMAND wrote, or the kernel, as in ask replay: a row for
+each number of a call, in rising order, and EPERM for all other calls. ask filter makes the filter of it.
+  --args CALL,..
+                these calls with no other arguments than the LOGs show: of each argument that is no address the numbers that came in
+                it, as far as Linux reads it; an argument that some line does not show may be any. Of calls of x86-64 alone
+  --numbers     numbers as they are, and no constants of Linux's headers
   --since-seccomp
                 only calls of processes that have a filter, as in ask replay
   --for RUNTIME allow the calls too that a container's runtime makes itself under its filter: docker (runc), crun or bwrap
@@ -180,6 +185,9 @@ that it comes from.
 CALL is a name or a number, decimal or 0x and hexadecimal; an ARG, of at most six, a number of 64 bits, - and one of at most 2^63, or
 numbers and constants of Linux's headers with | between them, as SOCK_RAW|SOCK_CLOEXEC. Behind a 0 digits are octal, and NULL is 0. A
 text in double quotes is an address that is not 0. Arguments that are not given are 0, and so is the instruction pointer.
+In place of CALL a line of the kernel may stand, as dmesg, auditd and journalctl print it of a call that a filter refused or logged:
+with type=1326, type=SECCOMP or audit[PID]: SECCOMP. What the kernel did stands last then, as logged: kill_process. Such a line has no
+arguments: where the verdict depends on one, that is told, and the status is 2.
   --json        one JSON document in place of the text, whose form is in FORMATS.md
   --arch ARCH   a call of this architecture: ask --help has their names; s390x is not followed
 A FILE may be a profile, and then --cap, --kernel, --machine, --native, --runc and --strict say how it holds: ask --help has them.

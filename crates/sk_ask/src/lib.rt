@@ -38,6 +38,8 @@ pub mod laws;
 mod lines;
 mod lint;
 mod manner;
+mod meant;
+mod narrowing;
 mod nearest;
 mod on;
 mod only;

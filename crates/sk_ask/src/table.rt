@@ -120,7 +120,7 @@ fn by_word<S: Shelf, A: Analysis>(
         Word::Expect => expect_answer(alloc, asked, names, reader.shelf, on.analysis, reads),
         Word::Lint { all } => lint_answer(alloc, names, reader, on, all, reads),
         Word::Replay { since } => replay_answer(alloc, names, reader, on, since, reads),
-        Word::Allow(asks) => allow_answer(alloc, names, reader.shelf, architecture, asks, reads),
+        Word::Allow(asks) => allow_answer(alloc, names, reader.shelf, on, asks, calls, reads),
         Word::Why => why_answer(alloc, names, reader, architecture, printing, reads),
         Word::Show => reader.answer(alloc, reads, names, Show { architecture }),
         Word::Arches => reader.answer(alloc, reads, names, Arches { printing }),

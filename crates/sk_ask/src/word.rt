@@ -58,7 +58,7 @@ pub const NAMES: [&str; 13] = [
 ];
 
 /// The names of all options, those of several words first.
-pub const OPTIONS: [&str; 22] = [
+pub const OPTIONS: [&str; 23] = [
     "--help",
     "--arch",
     "--cap",
@@ -81,6 +81,7 @@ pub const OPTIONS: [&str; 22] = [
     "--old",
     "--since-seccomp",
     "--for",
+    "--args",
 ];
 
 impl Word {
@@ -228,8 +229,10 @@ impl Word {
 /// An option that a word stands behind.
 #[derive(Clone, Copy, Debug, PartialEq, Eq)]
 pub enum Valued {
-    /// The only call that is asked of.
+    /// The only calls that are asked of.
     Call,
+    /// The calls that are allowed with the arguments of logs alone.
+    Args,
     /// The only verdict that is looked for.
     Only,
     /// A capability that is held where profiles are to hold.
@@ -256,6 +259,7 @@ impl Valued {
     {
         match self {
             Valued::Call => "--call",
+            Valued::Args => "--args",
             Valued::Only => "--only",
             Valued::Cap => "--cap",
             Valued::Kernel => "--kernel",
@@ -272,7 +276,7 @@ impl Valued {
         ensures kind { result.now ≡ value_kind self }
     {
         match self {
-            Valued::Call => "a name or a number",
+            Valued::Call | Valued::Args => "a name or a number",
             Valued::Only => "a verdict as allow or errno/1",
             Valued::Cap | Valued::Machine | Valued::Arch => "a name",
             Valued::Kernel => "a version as 6.1",
@@ -305,6 +309,8 @@ impl Valued {
             Some(Valued::Grant)
         } else if allows(word) && is_same(name, b"--for") {
             Some(Valued::For)
+        } else if allows(word) && is_same(name, b"--args") {
+            Some(Valued::Args)
         } else if may_compare(word) && is_same(name, b"--old") {
             Some(Valued::Old)
         } else {
@@ -411,7 +417,12 @@ pub(crate) fn tells_conditions(word: Word) -> bool
 {
     matches!(
         word,
-        Word::When { .. } | Word::Diff { .. } | Word::Expect | Word::Lint { .. } | Word::Page { .. }
+        Word::When { .. }
+            | Word::Diff { .. }
+            | Word::Expect
+            | Word::Lint { .. }
+            | Word::Allow(_)
+            | Word::Page { .. }
     )
 }
 

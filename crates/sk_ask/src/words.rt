@@ -1,13 +1,13 @@
 //! What is asked by the words behind `ask WORD`.
-ghost use Rattle.std.specs.Prelude.{◌≡◌, ◌≤◌, ◌++◌, ◌∷◌, IfOk, Ok, codes, length, string_bytes, map};
+ghost use Rattle.std.specs.Prelude.{◌≡◌, ◌≤◌, ◌++◌, ◌∷◌, [], IfOk, Ok, codes, length, string_bytes, map};
 ghost use Rattle.std.specs.List.{before_first, after_first, slice_split};
 ghost use Rattle.sk_profile_json.specs.Capabilities.{capability};
 ghost use Rattle.sk_profile_json.specs.Machines.{machine_named};
-ghost use Rattle.sk_ask.specs.Asking.{asked_of, nothing_asked, ends_options, with_names, with_word, with_free, with_joined_or_flag, with_joined, is_equals, with_valued, with_value, with_caps, with_only, with_each_cap, is_comma, with_form, with_grant, with_runtime, with_kernel, with_machine, with_architecture, with_flag, with_name, is_given, valued_named, expected_line, is_option, no_capability_line, no_machine_line, no_option_line, word_name};
+ghost use Rattle.sk_ask.specs.Asking.{asked_of, nothing_asked, ends_options, with_names, with_word, with_free, with_joined_or_flag, with_joined, is_equals, with_valued, with_value, with_call, with_calls, with_caps, with_only, with_each_cap, is_comma, with_form, with_grant, with_runtime, with_kernel, with_machine, with_architecture, with_flag, with_name, is_given, valued_named, expected_line, is_option, no_capability_line, no_machine_line, no_option_line, word_name};
 ghost use Rattle.sk_ask.specs.Nearest.{architecture_names, of_unknown, see_help};
 ghost use Rattle.sk_ask.specs.OtherNames.{architecture_meant};
 ghost use Rattle.sk_ask.specs.Asked.{question_of, Asks, HasNames};
-ghost use Rattle.sk_ask.specs.declared.word.Valued.TheVariants.{Call, Old};
+ghost use Rattle.sk_ask.specs.declared.word.Valued.TheVariants.{Old};
 
 use crate::complete::{ended, is_turned, turned_line};
 use crate::nearest::{
@@ -31,7 +31,7 @@ use std::alloc::{AllocError, Global};
 #[derive(Drop)]
 pub struct Asked {
     pub word: Word,
-    /// The words behind each `--call`.
+    /// The words behind each `--call`, or `--args`.
     pub calls: Vec<String>,
     /// The verdicts behind each `--only`.
     pub only: Vec<Sought>,
@@ -141,7 +141,7 @@ fn with_value(alloc: Global, option: Valued, asked: Asked, text: &str) -> Result
     ensures exact { Asks result (with_value option (question_of asked) text.now) }
 {
     match option {
-        Valued::Call => Ok(with_call(alloc, asked, text)?),
+        Valued::Call | Valued::Args => Ok(with_calls(alloc, asked, text)?),
         Valued::Only => with_only(alloc, asked, Sought::named(text.as_bytes())),
         Valued::Cap => with_each_cap(alloc, asked, text),
         Valued::Kernel => with_kernel(alloc, asked, kernel_meant(text.as_bytes())),
@@ -168,8 +168,22 @@ fn with_old(alloc: Global, asked: Asked, text: &str) -> Result<Asked, AllocError
     Ok(asked)
 }
 
+// The calls between commas.
+#[tactic(auto, using(crate::proofs::Commas::first_part, crate::proofs::Commas::only_part, crate::proofs::Commas::is_shorter))]
+fn with_calls(alloc: Global, asked: Asked, text: &str) -> Result<Asked, AllocError>
+    ensures exact { IfOk result (λ more. question_of more ≡ with_calls (question_of asked) (slice_split is_comma text.now)) }
+{
+    let mut held = asked;
+    let mut rest = text;
+    while let Some((name, left)) = rest.split_once(',') {
+        held = with_call(alloc, held, name)?;
+        rest = left;
+    }
+    with_call(alloc, held, rest)
+}
+
 fn with_call(alloc: Global, asked: Asked, text: &str) -> Result<Asked, AllocError>
-    ensures exact { IfOk result (λ more. Ok (question_of more) ≡ with_value Call (question_of asked) text.now) }
+    ensures exact { IfOk result (λ more. question_of more ≡ with_call (question_of asked) text.now) }
 {
     let mut asked = Asked {
         awaits: None,
@@ -406,7 +420,7 @@ fn is_given(option: Valued, asked: &Asked) -> bool
     ensures given { result ≡ is_given option (question_of asked.now) }
 {
     match option {
-        Valued::Call | Valued::Only | Valued::Cap => false,
+        Valued::Call | Valued::Args | Valued::Only | Valued::Cap => false,
         Valued::Kernel => asked.kernel.is_some(),
         Valued::Machine => asked.machine.is_some(),
         Valued::Arch => asked.arch.is_some(),

@@ -52,6 +52,25 @@ const POLICIES: &[(&str, &[u8], &[u8], u8)] = &[
         b"ask: log: holds no call that attaches a filter: expected seccomp or prctl in lines as strace -f writes them\n",
         2,
     ),
+    // The mode is left out in one line, and the name is an address.
+    (
+        "allow --args openat,socket opened",
+        b"default errno/1 EPERM\n39 getpid allow\n41 socket\n  allow where (args[0] & 0xffffffff) == AF_UNIX && (args[1] & 0xffffffff) == SOCK_STREAM\n      && (args[2] & 0xffffffff) == 0\n  errno/1 EPERM else\n257 openat\n  allow where (args[0] & 0xffffffff) == 0xffffff9c\n      && ((args[2] & 0xffffffff) == (O_WRONLY|O_CREAT) || (args[2] & 0xffffffff) == O_CLOEXEC)\n  errno/1 EPERM else\n",
+        b"",
+        0,
+    ),
+    (
+        "allow --args openat --to profile opened",
+        b"",
+        b"ask: allow: a profile is written without conditions: --args\n",
+        2,
+    ),
+    (
+        "allow --for crun --args socket,openat opened",
+        b"",
+        b"ask: allow: the runtime makes this call itself, with arguments that no log shows: --args openat\n",
+        2,
+    ),
     (
         "allow --to profile log",
         b"{\n  \"defaultAction\": \"SCMP_ACT_ERRNO\",\n  \"defaultErrnoRet\": 1,\n  \"architectures\": [\n    \"SCMP_ARCH_X86_64\"\n  ],\n  \"syscalls\": [\n    {\n      \"names\": [\n        \"read\",\n        \"getpid\"\n      ],\n      \"action\": \"SCMP_ACT_ALLOW\"\n    }\n  ]\n}\n",

@@ -18,8 +18,8 @@ const LOG: &[u8] =
 const REPLAY: &str =
     "{\"word\":\"replay\",\"architecture\":\"x86-64\",\"denies\":true,\"rows\":[{\"times\":2,\"number\":110,\"name\":\"getppid\",\
     \"args\":[],\"performed\":false,\"verdict\":{\"value\":327681,\"action\":\"errno\",\"data\":1,\"text\":\"errno/1 EPERM\"},\
-    \"undecided_by\":null,\"text\":\"getppid()\"},{\"times\":1,\"number\":0,\"name\":\"read\",\"args\":[\"0x3\",\"0x0\",\"0x10\"],\"performed\":true,\
-    \"verdict\":{\"value\":2147418112,\"action\":\"allow\",\"data\":0,\"text\":\"allow\"},\"undecided_by\":null,\"text\":\"read(0x3, 0, 0x10)\"}],\
+    \"undecided_by\":null,\"logged\":null,\"text\":\"getppid()\"},{\"times\":1,\"number\":0,\"name\":\"read\",\"args\":[\"0x3\",\"0x0\",\"0x10\"],\"performed\":true,\
+    \"verdict\":{\"value\":2147418112,\"action\":\"allow\",\"data\":0,\"text\":\"allow\"},\"undecided_by\":null,\"logged\":null,\"text\":\"read(0x3, 0, 0x10)\"}],\
     \"no_calls\":1,\"not_understood\":1}\n";
 
 const WHY: &str =
@@ -32,7 +32,7 @@ const WHY: &str =
     \"verdict\":{\"value\":2147418112,\"action\":\"allow\",\"data\":0,\"text\":\"allow\"}}],\
     \"verdict\":{\"value\":2147418112,\"action\":\"allow\",\"data\":0,\"text\":\"allow\"},\"source\":{\"filter\":0,\"instruction\":3},\
     \"entries\":[{\"file\":\"a\\\"b\",\"kind\":\"profile\",\"by\":\"entry\",\"entry\":2,\"line\":17},\
-    {\"file\":\"c\",\"kind\":\"policy\",\"by\":\"others\",\"entry\":null,\"line\":null}]}\n";
+    {\"file\":\"c\",\"kind\":\"policy\",\"by\":\"others\",\"entry\":null,\"line\":null}],\"logged\":null}\n";
 
 /// What is told of two files that the filter may stand for.
 const DECISIONS: &[Decision<'static>] = &[
@@ -73,7 +73,7 @@ fn path_of_a_call(rt: HostRuntime) -> Result<(), Fail> {
     let alloc = rt.alloc();
     let chain = chain(alloc)?;
     let call = Record::native(39, 0, [0; 6]);
-    let text = why_document(alloc, Architecture::X86_64, &chain, &call, DECISIONS)?;
+    let text = why_document(alloc, Architecture::X86_64, &chain, &call, DECISIONS, None)?;
     assert_eq!(rt; str::from_utf8(&text)?, WHY);
     Ok(())
 }

@@ -59,6 +59,10 @@ const FILES: &[(&str, &[u8])] = &[
         "attached",
         b"6 getuid() = 0\n7 read(0x3, 0x7ffd, 0x40) = 0x40\n7 seccomp(SECCOMP_SET_MODE_FILTER, 0, NULL) = -1 EFAULT (Bad address)\n7 getgid() = 0\n7 seccomp(SECCOMP_SET_MODE_FILTER, 0, {len=1, filter=0x7ffd}) = 0\n7 getpid() = 0x7\n6 getuid() = 0\n8 close(3) = 0\n",
     ),
+    (
+        "opened",
+        b"7 openat(AT_FDCWD, \"a\", O_RDONLY|O_CLOEXEC) = 3\n7 openat(AT_FDCWD, \"b\", O_WRONLY|O_CREAT, 0644) = 3\n7 socket(AF_UNIX, SOCK_STREAM, 0) = 4\n7 getpid() = 7\n",
+    ),
     ("empty", b""),
     ("wanted", b"read: performed\n"),
     (
@@ -243,7 +247,11 @@ fn words(alloc: Global, text: &str) -> Result<Vec<String>, AllocError> {
 
 /// A run with the words of this text, of which the first so many writes of answers fail.
 pub fn run(alloc: Global, given: &str, failing: u64) -> Result<Ran, AllocError> {
-    let words = words(alloc, given)?;
+    run_words(alloc, &words(alloc, given)?, failing)
+}
+
+/// A run with these words.
+pub fn run_words(alloc: Global, words: &[String], failing: u64) -> Result<Ran, AllocError> {
     let mut out = Counted::new(Output {
         held: Vec::new(alloc),
         failing,
@@ -255,7 +263,7 @@ pub fn run(alloc: Global, given: &str, failing: u64) -> Result<Ran, AllocError> 
     let mut reads = 0;
     let status = command(
         alloc,
-        words.as_slice(),
+        words,
         &Files,
         &Trees,
         &mut reads,

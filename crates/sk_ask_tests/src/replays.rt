@@ -1,4 +1,5 @@
 //! Logs of strace(1) and of the kernel, each with the text and the sums of its replay through one filter.
+use crate::ends::run_words;
 use crate::whens::chain_of;
 use sk_names::Architecture;
 use sk_replay::{replay, replay_text};
@@ -63,8 +64,15 @@ const LOGS: &[(Architecture, &[u8], &str, bool, usize)] = &[
     (
         Architecture::X86_64,
         b"[ 8.5] audit: type=1326 audit(1796.2:3): pid=9 comm=\"x\" sig=31 arch=c000003e syscall=0 compat=0 ip=0x7f code=0x50000\n",
-        "1 read(?, ?, ?, ?, ?, ?) errno/1 EPERM\n",
+        "1 read(?, ?, ?, ?, ?, ?) errno/1 EPERM (logged: errno)\n",
         true,
+        1,
+    ),
+    (
+        Architecture::X86_64,
+        b"Dec 01 11:00:00 host audit[9]: SECCOMP pid=9 comm=\"a(b\" sig=31 arch=c000003e syscall=39 compat=0 ip=0x7f code=0x80000000\n",
+        "1 getpid(?, ?, ?, ?, ?, ?) allow (logged: kill_process)\n",
+        false,
         1,
     ),
     (
@@ -122,5 +130,22 @@ fn logs(rt: HostRuntime) -> Result<(), Fail> {
             (text, denies, calls)
         );
     }
+    Ok(())
+}
+
+#[test]
+fn a_record_stands_for_its_call(rt: HostRuntime) -> Result<(), Fail> {
+    let mut words = Vec::new(rt.alloc());
+    for word in [
+        "why",
+        "[ 8.5] audit: type=1326 audit(1796.2:3): arch=c000003e syscall=39 compat=0 ip=0x7f code=0x80000000",
+        "getpid",
+    ] {
+        words.push(String::from_str(rt.alloc(), word)?)?;
+    }
+    let ran = run_words(rt.alloc(), &words, 0)?;
+    let path: &[u8] =
+        b"filter 0\n   0 ldabs 0                  A=39 X=0\n   1 jeq 39 +0 +1             A=39 X=0  39 == 39 getpid: to 2\n   2 ret 0x00050001           A=39 X=0\n  errno/1 EPERM\nerrno/1 EPERM by filter 0 at 2\nlogged: kill_process\n";
+    assert_eq!(rt; (ran.status, ran.out.as_slice()), (0, path));
     Ok(())
 }
