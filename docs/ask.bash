@@ -430,7 +430,7 @@ _ask() {
     COMPREPLY=()
     if [ "$COMP_CWORD" -eq 1 ]; then
         mapfile -t COMPREPLY < <(compgen -W 'calls when diff expect lint replay allow why show arches page filter check --help --version' -- "$word")
-    elif [ "$before" = --call ] || { [ "$asked" = why ] && [ "$COMP_CWORD" -eq 2 ] && [[ $word != -* ]]; }; then
+    elif [ "$before" = --call ] || [ "$before" = --args ] || { [ "$asked" = why ] && [ "$COMP_CWORD" -eq 2 ] && [[ $word != -* ]]; }; then
         mapfile -t COMPREPLY < <(compgen -W "$_ask_calls" -- "$word")
     elif [ "$before" = --only ]; then
         mapfile -t COMPREPLY < <(compgen -W 'kill_process kill_thread trap errno user_notif trace log allow' -- "$word")
@@ -460,7 +460,7 @@ _ask() {
         arches) mapfile -t COMPREPLY < <(compgen -W '--json --cap --kernel --machine --native --runc --strict --help' -- "$word") ;;
         filter) mapfile -t COMPREPLY < <(compgen -W '--to --raw --smaller --cap --kernel --machine --native --runc --strict --help' -- "$word") ;;
         replay) mapfile -t COMPREPLY < <(compgen -W '--since-seccomp --json --arch --cap --kernel --machine --native --runc --strict --help' -- "$word") ;;
-        allow) mapfile -t COMPREPLY < <(compgen -W '--since-seccomp --for --to --arch --cap --kernel --machine --native --runc --strict --help' -- "$word") ;;
+        allow) mapfile -t COMPREPLY < <(compgen -W '--args --numbers --since-seccomp --for --to --arch --cap --kernel --machine --native --runc --strict --help' -- "$word") ;;
         why) mapfile -t COMPREPLY < <(compgen -W '--json --arch --cap --kernel --machine --native --runc --strict --help' -- "$word") ;;
         show | check) mapfile -t COMPREPLY < <(compgen -W '--arch --cap --kernel --machine --native --runc --strict --help' -- "$word") ;;
         *) mapfile -t COMPREPLY < <(compgen -W '--cap --kernel --machine --native --runc --strict --help' -- "$word") ;;
