@@ -2,7 +2,7 @@
 use Rattle.std.proofs.Common.{◌≡◌, ◌==◌, ◌∙◌, ap, sym, refl, ℕ, Bool, true, false, if◌then◌else◌, List, [], ◌∷◌, ◌++◌, length, map, codes, flat_map, Option, Some, None}
 use Rattle.std.specs.Fmt.{digits}
 use Rattle.sk_arguments.specs.Naming.{call_with_constants}
-use Rattle.sk_arguments.specs.Reading.{kind_by, kind_of}
+use Rattle.sk_arguments.specs.Reading.{argument_name, kind_by, kind_of}
 use Rattle.sk_arguments.specs.declared.naming.Naming.TheVariants.{Numbers}
 use Rattle.sk_engines.specs.Output.{line}
 use Rattle.sk_insn.specs.Actions.{action_of, allow}
@@ -26,7 +26,7 @@ use Rattle.sk_when.specs.Filling.{filled_behind}
 use Rattle.sk_when.specs.Naming.{constants_of, names_of}
 use Rattle.sk_when.specs.WhenText.{before_text, ends_text, line_text, row_text}
 use Rattle.sk_policy_when.specs.Allowing.{allow_text}
-use Rattle.sk_policy_when.specs.Narrowing.{AreAllowedRows, Condition, IsAllowedRow, IsLineOf, IsNarrowedRow, IsPlainRow, allowed_rows, refused, terms_in, terms_of}
+use Rattle.sk_policy_when.specs.Narrowing.{AreAllowedRows, Condition, IsAllowedRow, IsLineOf, IsNarrowedRow, IsPlainRow, allowed_rows, number_bits, refused, terms_in, terms_of, unshown_arguments}
 use Rattle.sk_policy_when.specs.WorkedAllowing.{AllowingWorks, IsTextOf}
 use Rattle.sk_policy_when.specs.WorkedNarrowing.{NarrowingWorks, of_openat}
 use Rattle.sk_replay.specs.WorkedSeen.{opened}
@@ -138,7 +138,7 @@ narrowed_row nr choices one two told terms is =
 fcntl_row : (rows : List ConditionalRow) → AreAllowedRows (allowed_rows (22 ∷ 72 ∷ []) (72 ∷ []) opened) rows
     → flat_map (row_text (names_of Numbers architecture.X86_64)) rows
     ≡ codes "22 pipe allow\n72 fcntl\n  allow where (args[0] & 0xffffffff) == 0x3 && (args[1] & 0xffffffff) == 0x1\n  errno/1 EPERM else\n"
-unfolding digits action_of error_named verdict_text name_of name_at name_in name_on runs_of kind_by kind_of seen_numbers shown_value filled_behind
+unfolding digits action_of error_named verdict_text name_of name_at name_in name_on runs_of kind_by kind_of argument_name number_bits seen_numbers shown_value filled_behind
 fcntl_row [] are = absurd are
 fcntl_row (told ∷ []) are = absurd are.1
 fcntl_row (told ∷ other ∷ []) are =
@@ -150,24 +150,32 @@ fcntl_row (told ∷ other ∷ third ∷ rows) are = absurd are.1.1
 openat_row : (rows : List ConditionalRow) → AreAllowedRows (allowed_rows (257 ∷ []) (257 ∷ []) opened) rows
     → flat_map (row_text (names_of Numbers architecture.X86_64)) rows
     ≡ codes "257 openat\n  allow where (args[0] & 0xffffffff) == 0xffffff9c\n      && ((args[2] & 0xffffffff) == 0 || (args[2] & 0xffffffff) == 0x80000)\n  errno/1 EPERM else\n"
-unfolding digits action_of error_named verdict_text name_of name_at name_in name_on runs_of kind_by kind_of seen_numbers shown_value filled_behind
+unfolding digits action_of error_named verdict_text name_of name_at name_in name_on runs_of kind_by kind_of argument_name number_bits seen_numbers shown_value filled_behind
 openat_row [] are = absurd are
 openat_row (told ∷ []) are = let only = narrowed_row 257 are.0.0 _ _ told are.0.1 are.0.2 in (λ i. only i ++ [])
 openat_row (told ∷ other ∷ rows) are = absurd are.1
 
 pub narrowing_works : NarrowingWorks
-unfolding digits action_of error_named verdict_text name_of name_at name_in name_on runs_of kind_by kind_of seen_numbers shown_value allow_text
+unfolding digits action_of error_named verdict_text name_of name_at name_in name_on runs_of kind_by kind_of argument_name number_bits unshown_arguments seen_numbers shown_value allow_text
 narrowing_works = record {
   flags = refl;
   of_another = refl;
   flags_hidden = refl;
   flags_left_out = refl;
   addresses = refl;
+  address_of_64_bits = refl;
   mode = refl;
   whole = refl;
   not_narrowed = refl;
   in_no_log = refl;
   one_row_for_each = refl;
+  mode_is_unshown = refl;
+  none_is_unshown = refl;
+  all_are_unshown = refl;
+  one_is_narrowed = refl;
+  nothing_shown = refl;
+  nothing_to_show = refl;
+  nothing_made = refl;
   other_half = refl;
   other_folder = refl;
   as_logged = refl;

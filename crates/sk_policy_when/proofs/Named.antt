@@ -4,6 +4,7 @@ use Rattle.std.proofs.lemmas.Bool.{and_from, and_parts, cases_Bool, cases_lt, eq
 use Rattle.std.proofs.lemmas.Fmt.{digits_is_IsNumeral}
 use Rattle.std.proofs.lemmas.List.{get_or-drop, get_or-take, length-drop, length-take-le}
 use Rattle.std.proofs.lemmas.List.Quantifiers.{position-Some}
+use Rattle.std.proofs.lemmas.List.Folds.{list_all_at}
 use Rattle.std.proofs.lemmas.Option.{get_or_from_slice_get, option_and_then_some, slice_get-get_or, slice_get_within}
 use Rattle.std.specs.Char.{digit_value}
 use Rattle.std.specs.Fmt.{digits}
@@ -150,17 +151,13 @@ all_constant_words : list_all is_constant_word all_names ≡ true
 unfolding all_names is_word_byte is_letter_or_digit operator_named relation_named register_named number_of
 all_constant_words = refl
 
-both : (a b : Bool) → (a && b) ≡ true → (a ≡ true) × (b ≡ true)
-both a b h = and_parts a b h
-
 one_of : (test : List ℕ → Bool) (names : List (List ℕ)) (k : ℕ) (name : List ℕ) → list_all test names ≡ true → slice_get names k ≡ Some name → test name ≡ true
-one_of test names k name all is =
-    ap test (sym (get_or_from_slice_get names k name [] is)) ∙ at names k all (slice_get_within names k name is)
-  where
-    at : (names : List (List ℕ)) (k : ℕ) → list_all test names ≡ true → k < length names → test (get_or names k []) ≡ true
-    at [] k all less = absurd (omega (arith, less))
-    at (name ∷ names) zero all less = (both (test name) (list_all test names) all).0
-    at (name ∷ names) (suc k) all less = at names k (both (test name) (list_all test names) all).1 (omega (arith, less))
+one_of test names k name all is = elim (cases_Bool (test name)) [
+  | inl t ↦ t
+  | inr f ↦
+      let there = ap test (get_or_from_slice_get names k name [] is) ∙ f in
+      absurd (false≢true (sym (list_all_at test names k [] (slice_get_within names k name is) there) ∙ all))
+]
 
 -- a number of a part stands in the whole
 in_part : (numbers : List ℕ) (first end place : ℕ) → place < length (part numbers first end) → slice_get numbers (first + place) ≡ Some (get_or (part numbers first end) place 0)
@@ -170,7 +167,7 @@ in_part numbers first end place = by_order (nat_le first end && nat_le end (leng
         → slice_get numbers (first + place) ≡ Some (get_or (cond b (slice_range numbers first end) []) place 0)
     by_order false is less = absurd (omega (arith, less))
     by_order true is less =
-        let parts = both (nat_le first end) (nat_le end (length numbers)) is in
+        let parts = and_parts (nat_le first end) (nat_le end (length numbers)) is in
         let low = leb-true first end parts.0 in
         let high = leb-true end (length numbers) parts.1 in
         let long : length (slice_range numbers first end) ≡ end - first =
@@ -204,9 +201,9 @@ value_of_constant word n none is = elim (cases_Bool (begins_with_zero word)) [
 constant_stands : (set : Set) (n : ℕ) (name : List ℕ) → name_in set n ≡ Some name → Stands name (token.Number n)
 constant_stands set n name is =
     let all = name_is_constant set n name is in
-    let last = both (is_run name && not (is_some (operator_named name)) && not (is_some (register_named name))) (not (is_some (number_of name))) all in
-    let third = both (is_run name && not (is_some (operator_named name))) (not (is_some (register_named name))) last.0 in
-    let first = both (is_run name) (not (is_some (operator_named name))) third.0 in
+    let last = and_parts (is_run name && not (is_some (operator_named name)) && not (is_some (register_named name))) (not (is_some (number_of name))) all in
+    let third = and_parts (is_run name && not (is_some (operator_named name))) (not (is_some (register_named name))) last.0 in
+    let first = and_parts (is_run name) (not (is_some (operator_named name))) third.0 in
     record {
       run = first.0;
       token = number_named name n (is_none (operator_named name) first.1) (is_none (register_named name) third.1)

@@ -14,7 +14,7 @@ use Rattle.sk_insn.specs.Actions.{allow}
 use Rattle.sk_names.specs.declared.architecture.Architecture.{Architecture}
 use Rattle.sk_arguments.specs.declared.kinds.Kind.{Kind}
 use Rattle.sk_arguments.specs.declared.kinds.Kind.TheVariants as kind
-use Rattle.sk_arguments.specs.Reading.{kind_of}
+use Rattle.sk_arguments.specs.Reading.{argument_name, kind_of}
 use Rattle.sk_replay.specs.declared.call.Call.{Call}
 use Rattle.sk_replay.specs.declared.value.Value.{Value}
 use Rattle.sk_replay.specs.declared.value.Value.TheVariants.{Told, Unknown}
@@ -27,7 +27,7 @@ use Rattle.sk_terms.specs.Lines.{meets_line}
 use Rattle.sk_terms.specs.Terms.{holds_term}
 use Rattle.sk_terms.proofs.WorkedLines.{line_met, met_terms}
 use Rattle.sk_policy_text.specs.PolicyRows.{is_of_x32}
-use Rattle.sk_policy_when.specs.Narrowing.{Condition, condition_at, condition_of, condition_under, conditions_for, conditions_on, holds, holds_each, read_bits, refused, term_of, terms_in, terms_of}
+use Rattle.sk_policy_when.specs.Narrowing.{Condition, condition_at, condition_of, condition_under, conditions_for, conditions_on, holds, holds_each, is_address, number_bits, read_bits, refused, term_of, terms_in, terms_of}
 use Rattle.sk_policy_when.specs.Allowing.{IsAsLogged, IsSeen, LoggedAreAllowed, NarrowedAreSeen, NoOthersAreAllowed, allowed_verdict, logged_calls, row_verdict, written_for}
 
 -- ---- terms say what conditions say
@@ -169,20 +169,20 @@ module _ (P : Condition → Type 0) (calls : List Call) (nr : ℕ) where
 
   -- it is true where numbers are seen
   pub one_of : (i : ℕ)
-      → ((mask first : ℕ) (numbers : List ℕ) → read_bits (kind_of nr i) ≡ Some mask → seen_numbers calls nr i mask ≡ Some (first ∷ numbers) → P (record { argument = i; mask = mask; numbers = first ∷ numbers }))
+      → ((mask first : ℕ) (numbers : List ℕ) → number_bits nr i ≡ Some mask → seen_numbers calls nr i mask ≡ Some (first ∷ numbers) → P (record { argument = i; mask = mask; numbers = first ∷ numbers }))
       → All P (condition_at calls nr i)
-  one_of i give = by_bits (read_bits (kind_of nr i)) refl
+  one_of i give = by_bits (number_bits nr i) refl
     where
-      by_seen : (mask : ℕ) (seen : Option (List ℕ)) → read_bits (kind_of nr i) ≡ Some mask → seen_numbers calls nr i mask ≡ seen → All P (condition_of i mask seen)
+      by_seen : (mask : ℕ) (seen : Option (List ℕ)) → number_bits nr i ≡ Some mask → seen_numbers calls nr i mask ≡ seen → All P (condition_of i mask seen)
       by_seen mask None bits is = All-nil P
       by_seen mask (Some []) bits is = All-nil P
       by_seen mask (Some (first ∷ numbers)) bits is = All-cons P (record { argument = i; mask = mask; numbers = first ∷ numbers }) [] (give mask first numbers bits is) (All-nil P)
 
-      by_bits : (bits : Option ℕ) → read_bits (kind_of nr i) ≡ bits → All P (condition_under calls nr i bits)
+      by_bits : (bits : Option ℕ) → number_bits nr i ≡ bits → All P (condition_under calls nr i bits)
       by_bits None is = All-nil P
       by_bits (Some mask) is = by_seen mask (seen_numbers calls nr i mask) is refl
 
-  pub each_of : ((i mask first : ℕ) (numbers : List ℕ) → i < 6 → read_bits (kind_of nr i) ≡ Some mask → seen_numbers calls nr i mask ≡ Some (first ∷ numbers)
+  pub each_of : ((i mask first : ℕ) (numbers : List ℕ) → i < 6 → number_bits nr i ≡ Some mask → seen_numbers calls nr i mask ≡ Some (first ∷ numbers)
       → P (record { argument = i; mask = mask; numbers = first ∷ numbers })) → All P (conditions_on calls nr)
   each_of give = of_all (range_with_len 0 6) six
     where
@@ -220,7 +220,7 @@ holds_all call (it ∷ conditions) all =
 logged_hold : (calls : List Call) (narrowed : List ℕ) (logged : Call) (call : Record) → Contains calls logged → IsAsLogged logged call → holds_each call (conditions_for narrowed calls logged.nr) ≡ true
 logged_hold calls narrowed logged call there shows = holds_all call (conditions_for narrowed calls logged.nr) (each_for (λ it. holds call it ≡ true) calls logged.nr narrowed (each_of (λ it. holds call it ≡ true) calls logged.nr give))
   where
-    give : (i mask first : ℕ) (numbers : List ℕ) → i < 6 → read_bits (kind_of logged.nr i) ≡ Some mask → seen_numbers calls logged.nr i mask ≡ Some (first ∷ numbers)
+    give : (i mask first : ℕ) (numbers : List ℕ) → i < 6 → number_bits logged.nr i ≡ Some mask → seen_numbers calls logged.nr i mask ≡ Some (first ∷ numbers)
         → is_among (bit_and (slice_index_or call.args i 0) mask) (first ∷ numbers) ≡ true
     give i mask first numbers small bits seen =
         let told = told_there calls logged.nr i mask (first ∷ numbers) seen logged there refl in
@@ -283,6 +283,14 @@ bits_small kind.Int mask is = let same : 0xffffffff ≡ mask = cc in omega (arit
 bits_small kind.Unsigned mask is = let same : 0xffffffff ≡ mask = cc in omega (arith, same)
 bits_small kind.Long mask is = let same : 0xffffffffffffffff ≡ mask = cc in omega (arith, same)
 
+number_small : (nr i mask : ℕ) → number_bits nr i ≡ Some mask → mask < 2 ^ 64
+unfolding number_bits
+number_small nr i mask is = by_test (is_address (argument_name nr i)) is
+  where
+    by_test : (b : Bool) → (if b then None else read_bits (kind_of nr i)) ≡ Some mask → mask < 2 ^ 64
+    by_test true is = cc
+    by_test false is = bits_small (kind_of nr i) mask is
+
 rising_small : (i mask : ℕ) (calls : List Call) → mask < 2 ^ 64 → All (λ n. n < 2 ^ 64) (rising (map (bits_shown i mask) calls))
 rising_small i mask [] small = All-nil (λ n. n < 2 ^ 64)
 rising_small i mask (call ∷ calls) small =
@@ -292,10 +300,10 @@ rising_small i mask (call ∷ calls) small =
 pub all_fit : (narrowed : List ℕ) (calls : List Call) (nr : ℕ) → All IsFit (conditions_for narrowed calls nr)
 all_fit narrowed calls nr = each_for IsFit calls nr narrowed (each_of IsFit calls nr give)
   where
-    give : (i mask first : ℕ) (numbers : List ℕ) → i < 6 → read_bits (kind_of nr i) ≡ Some mask → seen_numbers calls nr i mask ≡ Some (first ∷ numbers)
+    give : (i mask first : ℕ) (numbers : List ℕ) → i < 6 → number_bits nr i ≡ Some mask → seen_numbers calls nr i mask ≡ Some (first ∷ numbers)
         → IsFit (record { argument = i; mask = mask; numbers = first ∷ numbers })
     give i mask first numbers small bits seen =
-        let mask_small = bits_small (kind_of nr i) mask bits in
+        let mask_small = number_small nr i mask bits in
         record {
           argument = small;
           mask = mask_small;

@@ -11,7 +11,6 @@ use Rattle.sk_filter.specs.Valid.{IsValid}
 use Rattle.sk_filter.specs.VerdictText.{verdict_text}
 use Rattle.sk_engines.specs.Output.{line}
 use Rattle.sk_arguments.specs.declared.naming.Naming.{Naming}
-use Rattle.sk_arguments.specs.Reading.{kind_of}
 use Rattle.sk_names.specs.declared.architecture.Architecture.{Architecture}
 use Rattle.sk_names.specs.declared.architecture.Architecture.TheVariants as architecture
 use Rattle.sk_names.specs.Architectures.{audit_of, text_of}
@@ -32,7 +31,7 @@ use Rattle.sk_policy_text.specs.PolicyOf.{AreNamed, AreOnce}
 use Rattle.sk_policy_text.specs.PolicyRows.{is_of_x32}
 use Rattle.sk_policy_text.specs.PolicySays.{Says}
 use Rattle.sk_policy_text.specs.PolicySizes.{rules_bound}
-use Rattle.sk_policy_when.specs.Narrowing.{AreAllowedRows, Condition, allowed_rows, conditions_for, holds_each, read_bits, refused}
+use Rattle.sk_policy_when.specs.Narrowing.{AreAllowedRows, Condition, allowed_rows, conditions_for, holds_each, number_bits, refused}
 
 -- ---- the text
 
@@ -151,11 +150,11 @@ AllowingLogs =
     → IsAllowing by (numbers_in by logs) narrowed (logged_calls by logs) bytes
     → IsMade bytes image → ImageAnswers (written_for by) (logged_verdict by logs narrowed) image
 
--- a call is one of a log as far as a line of it shows: it has the number, and each argument that the line shows, in the bits that
+-- a call is one of a log as far as a line of it shows: it has the number, and each number that the line shows, in the bits that
 -- Linux reads of it
 pub record IsAsLogged (logged : Call) (call : Record) : Type 0 where
   pub number : call.nr ≡ logged.nr
-  pub arguments : (i mask n : ℕ) → read_bits (kind_of logged.nr i) ≡ Some mask → shown_value logged i ≡ Told n
+  pub arguments : (i mask n : ℕ) → number_bits logged.nr i ≡ Some mask → shown_value logged i ≡ Told n
       → bit_and (slice_index_or call.args i 0) mask ≡ bit_and n mask
 
 -- each call of a log is allowed, whatever stands in the arguments that the line does not show

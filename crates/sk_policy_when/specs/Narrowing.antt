@@ -1,11 +1,12 @@
 -- Calls that are allowed only with what logs show in their arguments.
-use Rattle.std.specs.Prelude.{ℕ, ◌≡◌, Bool, true, if◌then◌else◌, List, [], ◌∷◌, map, flat_map, slice_index_or, bit_and, Option, Some, None}
-use Rattle.std.specs.List.{list_all, range_with_len}
+use Rattle.std.specs.Prelude.{ℕ, ◌≡◌, Bool, true, false, if◌then◌else◌, List, [], ◌∷◌, map, flat_map, slice_index_or, bit_and, codes, Option, Some, None}
+use Rattle.std.specs.List.{list_all, list_any, range_with_len}
+use Rattle.std.specs.Str.{bytes_eq}
 use Rattle.sk_insn.specs.declared.record.Record.{Record}
 use Rattle.sk_insn.specs.Actions.{allow}
 use Rattle.sk_arguments.specs.declared.kinds.Kind.{Kind}
 use Rattle.sk_arguments.specs.declared.kinds.Kind.TheVariants as kind
-use Rattle.sk_arguments.specs.Reading.{kind_of}
+use Rattle.sk_arguments.specs.Reading.{argument_name, kind_of}
 use Rattle.sk_replay.specs.declared.call.Call.{Call}
 use Rattle.sk_replay.specs.Logged.{is_among}
 use Rattle.sk_replay.specs.Seen.{seen_numbers}
@@ -30,7 +31,18 @@ pub record Condition : Type 0 where
   pub mask : ℕ
   pub numbers : List ℕ
 
--- which bits of a register Linux reads of an argument. An address says nothing: what stands there is another thing at each call
+-- Linux takes some addresses for numbers of 64 bits: these names of arguments stand behind `void *` in the manual, or behind
+-- aio_context_t of io_setup(2), which is the address of a ring
+abbrev pub address_names : List (List ℕ)
+address_names =
+    codes "addr" ∷ codes "old_address" ∷ codes "new_address" ∷ codes "stack" ∷ codes "tls" ∷ codes "argp" ∷ codes "data" ∷ codes "start"
+    ∷ codes "ctx_id" ∷ []
+
+abbrev pub is_address : Option (List ℕ) → Bool
+is_address None = false
+is_address (Some name) = list_any (bytes_eq name) address_names
+
+-- which bits of a register Linux reads of an argument
 abbrev pub read_bits : Kind → Option ℕ
 read_bits kind.Absent = None
 read_bits kind.Pointer = None
@@ -38,6 +50,10 @@ read_bits kind.Mode = Some 0xffff
 read_bits kind.Int = Some 0xffffffff
 read_bits kind.Unsigned = Some 0xffffffff
 read_bits kind.Long = Some 0xffffffffffffffff
+
+-- and which of them are a number. An address says nothing: what stands there is another thing at each call
+unfoldable pub number_bits : ℕ → ℕ → Option ℕ
+number_bits nr i = if is_address (argument_name nr i) then None else read_bits (kind_of nr i)
 
 -- where a call with the number does not show the argument there is no condition on it, nor where there is no such call
 abbrev pub condition_of : ℕ → ℕ → Option (List ℕ) → List Condition
@@ -51,7 +67,7 @@ condition_under calls nr i (Some mask) = condition_of i mask (seen_numbers calls
 
 -- on one argument of the calls with a number
 abbrev pub condition_at : List Call → ℕ → ℕ → List Condition
-condition_at calls nr i = condition_under calls nr i (read_bits (kind_of nr i))
+condition_at calls nr i = condition_under calls nr i (number_bits nr i)
 
 -- on all six, in their order
 abbrev pub conditions_on : List Call → ℕ → List Condition
@@ -60,6 +76,34 @@ conditions_on calls nr = flat_map (condition_at calls nr) (range_with_len 0 6)
 -- of a call that is not narrowed there are none
 abbrev pub conditions_for : List ℕ → List Call → ℕ → List Condition
 conditions_for narrowed calls nr = if is_among nr narrowed then conditions_on calls nr else []
+
+-- ---- arguments that a log does not show
+
+-- a call with the number does not show the argument, so that there is no condition on it
+abbrev pub unshown_of : ℕ → Option (List ℕ) → List ℕ
+unshown_of i None = i ∷ []
+unshown_of i (Some numbers) = []
+
+abbrev pub unshown_under : List Call → ℕ → ℕ → Option ℕ → List ℕ
+unshown_under calls nr i None = []
+unshown_under calls nr i (Some mask) = unshown_of i (seen_numbers calls nr i mask)
+
+abbrev pub unshown_at : List Call → ℕ → ℕ → List ℕ
+unshown_at calls nr i = unshown_under calls nr i (number_bits nr i)
+
+-- those of the calls with a number, in their order
+unfoldable pub unshown_arguments : List Call → ℕ → List ℕ
+unshown_arguments calls nr = flat_map (unshown_at calls nr) (range_with_len 0 6)
+
+-- there is no condition, since nothing is shown
+abbrev pub is_wide_of : List Condition → List ℕ → Bool
+is_wide_of [] (first ∷ unshown) = true
+is_wide_of conditions unshown = false
+
+abbrev pub is_wide : List Call → ℕ → Bool
+is_wide calls nr = is_wide_of (conditions_on calls nr) (unshown_arguments calls nr)
+
+-- ---- calls on which conditions hold
 
 -- a call has one of the numbers there
 abbrev pub holds : Record → Condition → Bool

@@ -9,6 +9,6 @@ mod rules;
 mod smaller;
 
 pub use allowing::allow_text;
-pub use narrowing::allowed_rows;
+pub use narrowing::{allowed_rows, is_wide, unshown_arguments};
 pub use others::others_verdict;
 pub use smaller::{OneFilterFault, one_filter};

@@ -1,11 +1,15 @@
 //! Rows that allow calls only with what logs show in their arguments.
-ghost use Rattle.std.specs.Prelude.{◌≡◌, ◌++◌, map, IfOk, OnOk};
-ghost use Rattle.sk_policy_when.specs.Narrowing.{AreAllowedRows, IsAllowedRow, IsNarrowedRow, IsPlainRow, allowed_row, allowed_rows, condition_at, conditions_for, conditions_on, read_bits, term_of, terms_in, terms_of};
+ghost use Rattle.std.specs.Prelude.{◌≡◌, ◌==◌, ◌++◌, length, map, not, IfOk, OnOk};
+ghost use Rattle.std.specs.Option.{option_map};
+ghost use Rattle.std.specs.List.{list_any};
+ghost use Rattle.std.specs.Str.{bytes_eq};
+ghost use Rattle.sk_policy_when.specs.Narrowing.{AreAllowedRows, IsAllowedRow, IsNarrowedRow, IsPlainRow, address_names, allowed_row, allowed_rows, condition_at, conditions_for, conditions_on, is_address, is_wide, number_bits, read_bits, term_of, terms_in, terms_of, unshown_arguments, unshown_at};
 
-use sk_arguments::{Kind, kind_of};
+use sk_arguments::{Kind, argument_name, kind_of};
 use sk_replay::{Call, seen_numbers};
 use sk_survey::{Answers, Row};
 use sk_terms::{Choice, Line, Register, Term};
+use sk_text::is_same;
 use sk_when::ConditionalRow;
 use std::alloc::{AllocError, Global};
 
@@ -16,7 +20,7 @@ const ALLOW: u32 = 0x7fff_0000;
 const REFUSED: u32 = 0x0005_0001;
 
 /// A row for each of the numbers, which allows its calls. Of those that are narrowed it allows only the calls that show what the calls
-/// of a log show: in each argument that is no address, and that all of these show, a number that one of them has.
+/// of a log show: in each argument that is a number, and that all of these show, a number that one of them has.
 pub fn allowed_rows(
     alloc: Global,
     numbers: &[u32],
@@ -30,6 +34,54 @@ pub fn allowed_rows(
         rows.push(allowed_row(alloc, narrowed, calls, *number)?)?;
     }
     Ok(rows)
+}
+
+/// Which arguments of the calls with a number are numbers that one of these calls does not show, from 0 on and in rising order.
+pub fn unshown_arguments(alloc: Global, calls: &[Call], nr: u32) -> Result<Vec<usize>, AllocError>
+    ensures places { IfOk result (λ places. places.items ≡ unshown_arguments calls.now nr) }
+{
+    let mut places = Vec::new(alloc);
+    for place in 0..6 {
+        push_unshown(alloc, &mut places, calls, nr, place)?;
+    }
+    Ok(places)
+}
+
+/// Whether nothing can narrow the calls with a number, since they do not show what could.
+pub fn is_wide(alloc: Global, calls: &[Call], nr: u32) -> Result<bool, AllocError>
+    ensures wide { IfOk result (λ wide. wide ≡ is_wide calls.now nr) }
+{
+    let choices = choices_on(alloc, calls, nr)?;
+    if choices.is_empty() {
+        return has_unshown(alloc, calls, nr);
+    }
+    Ok(false)
+}
+
+fn has_unshown(alloc: Global, calls: &[Call], nr: u32) -> Result<bool, AllocError>
+    ensures has { IfOk result (λ has. has ≡ not (length (unshown_arguments calls.now nr) == 0)) }
+{
+    let unshown = unshown_arguments(alloc, calls, nr)?;
+    Ok(!unshown.is_empty())
+}
+
+// Adds an argument that a call does not show.
+fn push_unshown(
+    alloc: Global,
+    places: &mut Vec<usize>,
+    calls: &[Call],
+    nr: u32,
+    place: usize,
+) -> Result<(), AllocError>
+    ensures pushed { OnOk result (places.new.items ≡ places.old.items ++ unshown_at calls.now nr place) }
+{
+    let Some(mask) = number_bits(nr, place) else {
+        return Ok(());
+    };
+    if seen_numbers(alloc, calls, nr, place, mask)?.is_none() {
+        places.push(place)?;
+    }
+    Ok(())
 }
 
 fn allowed_row(
@@ -121,7 +173,7 @@ fn add_choice(
     ensures added { OnOk result (terms_in choices.new.items ≡ terms_in choices.old.items ++ map terms_of (condition_at calls.now nr argument)) }
 {
     let place = usize::from(argument);
-    let Some(mask) = read_bits(kind_of(nr, place)) else {
+    let Some(mask) = number_bits(nr, place) else {
         return Ok(());
     };
     let Some(numbers) = seen_numbers(alloc, calls, nr, place, mask)? else {
@@ -135,7 +187,42 @@ fn add_choice(
     Ok(())
 }
 
-// The bits of a register that Linux reads, where it is no address.
+// The bits of a register that are a number to Linux.
+#[tactic(auto, unfolding(crate::specs::Narrowing::number_bits))]
+fn number_bits(nr: u32, place: usize) -> Option<u64>
+    ensures bits { result ≡ number_bits nr place }
+{
+    if is_address(argument_name(nr, place)) {
+        return None;
+    }
+    read_bits(kind_of(nr, place))
+}
+
+// Whether an argument with the name is an address, though Linux may take it for a number.
+fn is_address(named: Option<&str>) -> bool
+    ensures address { result ≡ is_address (option_map (λ name. name.now) named.entry) }
+{
+    match named {
+        Some(name) => is_address_name(name.as_bytes()),
+        None => false,
+    }
+}
+
+fn is_address_name(name: &[u8]) -> bool
+    ensures address { result ≡ list_any (bytes_eq name.now) address_names }
+{
+    is_same(name, b"addr")
+        || is_same(name, b"old_address")
+        || is_same(name, b"new_address")
+        || is_same(name, b"stack")
+        || is_same(name, b"tls")
+        || is_same(name, b"argp")
+        || is_same(name, b"data")
+        || is_same(name, b"start")
+        || is_same(name, b"ctx_id")
+}
+
+// The bits of a register that Linux reads, where it is no pointer.
 fn read_bits(kind: Kind) -> Option<u64>
     ensures bits { result ≡ read_bits kind }
 {
