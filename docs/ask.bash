@@ -446,7 +446,7 @@ _ask() {
         *) mapfile -t COMPREPLY < <(compgen -W 'lines raw hex c base64 bpf_asm json' -- "$word") ;;
         esac
     elif [ "$before" = --for ]; then
-        mapfile -t COMPREPLY < <(compgen -W 'docker crun bwrap' -- "$word")
+        mapfile -t COMPREPLY < <(compgen -W 'docker crun bwrap systemd' -- "$word")
     elif [ "$before" = --kernel ]; then
         mapfile -t COMPREPLY < <(compgen -W '5.4 5.10 5.15 6.1 6.6 6.12' -- "$word")
     elif [[ $word == -* ]]; then

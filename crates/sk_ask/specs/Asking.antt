@@ -149,7 +149,7 @@ value_kind Machine = codes "a name"
 value_kind Arch = codes "a name"
 value_kind To = codes "raw, hex, lines, c, base64, bpf_asm or json"
 value_kind Grant = codes "policy or profile"
-value_kind For = codes "docker, crun or bwrap"
+value_kind For = codes "docker, crun, bwrap or systemd"
 value_kind Old = codes "a FILE"
 
 -- each call is told of by these

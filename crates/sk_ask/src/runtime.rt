@@ -1,10 +1,10 @@
-//! The calls that a container's runtime makes itself, under the filter that it attaches to a program.
+//! The calls that a container's runtime or a service manager makes itself, under the filter that it attaches to a program.
 ghost use Rattle.std.specs.Prelude.{◌≡◌};
 ghost use Rattle.sk_ask.specs.Runtimes.{runtime_log, runtime_named};
 
 use sk_text::is_same;
 
-/// What starts a program in a container.
+/// What starts a program under a filter, in a container or as a service.
 #[derive(Clone, Copy, Debug, PartialEq, Eq)]
 pub enum Runtime {
     /// runc, which docker takes, and podman may take.
@@ -13,6 +13,8 @@ pub enum Runtime {
     Crun,
     /// bubblewrap.
     Bwrap,
+    /// systemd, with the filter of a service.
+    Systemd,
 }
 
 /// Those of runc 1.1.5, of the thread that has the filter.
@@ -72,6 +74,12 @@ wait4() = 0
 write() = 0
 ";
 
+/// Those of systemd 252.
+const SYSTEMD_LOG: &str = "execve() = 0
+seccomp() = 0
+write() = 0
+";
+
 impl Runtime {
     /// The one with this name.
     pub fn named(name: &[u8]) -> Option<Runtime>
@@ -83,6 +91,8 @@ impl Runtime {
             Some(Runtime::Crun)
         } else if is_same(name, b"bwrap") {
             Some(Runtime::Bwrap)
+        } else if is_same(name, b"systemd") {
+            Some(Runtime::Systemd)
         } else {
             None
         }
@@ -97,6 +107,7 @@ impl Runtime {
             Runtime::Runc => RUNC_LOG,
             Runtime::Crun => CRUN_LOG,
             Runtime::Bwrap => BWRAP_LOG,
+            Runtime::Systemd => SYSTEMD_LOG,
         }
     }
 }

@@ -282,7 +282,7 @@ impl Valued {
             Valued::Kernel => "a version as 6.1",
             Valued::To => "raw, hex, lines, c, base64, bpf_asm or json",
             Valued::Grant => "policy or profile",
-            Valued::For => "docker, crun or bwrap",
+            Valued::For => "docker, crun, bwrap or systemd",
             Valued::Old => "a FILE",
         }
     }
