@@ -60,7 +60,10 @@ int main(void) { if (fork() == 0) return 3; int status; wait(&status); printf("c
 NARROWED = {
     "openat": {0: 32, 2: 32}, "access": {1: 32}, "fcntl": {0: 32, 1: 32}, "ioctl": {0: 32, 1: 32}, "socket": {0: 32, 1: 32, 2: 32},
     "prlimit64": {0: 32, 1: 32}, "dup2": {0: 32, 1: 32}, "close": {0: 32}, "lseek": {0: 32, 1: 64, 2: 32},
+    "mmap": {1: 64, 2: 32, 3: 64, 4: 32, 5: 64}, "mprotect": {1: 64, 2: 64}, "munmap": {1: 64},
 }
+# Of these the first argument is an address, which is another one in each run.
+ADDRESSES = {"mmap", "mprotect", "munmap"}
 SHOWN = re.compile(r"^(?:\d+ +)?(\w+)\((.*?)(?:\)? += .*| <unfinished \.\.\.>)$", re.M)
 SECONDS = 60
 X32 = 1 << 30
@@ -174,6 +177,8 @@ def check_narrowed(what, log):
     def verdict(name, arguments):
         return ask("why", f"{name}({', '.join(map(hex, arguments))})", "-", given=told).stdout.splitlines()[-1].split(b" by ")[0]
 
+    for name in sorted(ADDRESSES & set(found)):
+        judge(verdict(name, [0x123000, *found[name][0][1:]]) == b"allow", f"{what}: {name} is allowed at another address")
     for name, calls in sorted(found.items()):
         for i, bits in NARROWED[name].items():
             # A call that has not returned may show fewer.

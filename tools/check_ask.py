@@ -349,6 +349,7 @@ GETPID_DRAWN = "digraph {\n" + leaf(0, "errno/1 EPERM", "khaki") + "}\n"
 FLAG_DRAWN = "digraph {\n  n0 [label=\"(args[0] & 0x1) != 0\"];\n  n0 -> n1 [label=yes];\n" + leaf(1, "errno/38 ENOSYS", "khaki") \
     + "  n0 -> n2 [label=no];\n" + leaf(2, "allow", "palegreen") + "}\n"
 GETPID_STEPS = step(0, "ldabs 0", 39) + step(1, "jeq 39 +0 +1", 39, "  39 == 39 getpid: to 2") + step(2, "ret 0x00050001", 39) + "  errno/1 EPERM\n"
+UNSHOWN_MODE = "ask: allow: not each line shows this argument, so it may be any: args[3] of openat\n"
 GETPID_PATH = "filter 0\n" + GETPID_STEPS + "errno/1 EPERM by filter 0 at 2\n"
 GETPID_SHOWN = "; 0 nr\n    ldabs 0\n; 1 getpid\n    jeq 39 +0 at3\n; 2 errno/1 EPERM\n    ret 0x00050001\nat3:\n; 3 allow\n    ret 0x7fff0000\n"
 # ptrace(2) by the headers of each architecture, and what AUDIT_ARCH_* it has.
@@ -615,10 +616,18 @@ GOOD = [
     trouble("ask allow --to profile log_named", "allow: a profile has calls by their names, and none of x86-64 has the number 5000"),
     *[trouble(f"ask allow --to profile --arch {arch} log", "allow: a profile is written of calls of x86-64 alone: --to profile") for arch in ("i386", "x32", "aarch64")],
     *[trouble(f"ask allow {words}", "allow: expected policy or profile behind --to") for words in ("--to", "--to raw log", "log --to=", "--to Profile log")],
-    *[trouble(f"ask allow {words}", "allow: expected docker, crun or bwrap behind --for") for words in ("--for", "--for lxc log", "log --for=")],
+    *[trouble(f"ask allow {words}", "allow: expected docker, crun, bwrap or systemd behind --for") for words in ("--for", "--for lxc log", "log --for=")],
     trouble("ask allow --for docker --for crun log", "allow: given twice: --for"),
-    *[good(f"comm -13 <(ask allow --for {name} log | sort) <(ask allow log | sort)", "") for name in ("docker", "runc", "crun", "bwrap")],
-    *[good(f"ask allow --for {name} log | grep -c ' execve allow$'", "1\n") for name in ("docker", "runc", "crun", "bwrap")],
+    *[good(f"comm -13 <(ask allow --for {name} log | sort) <(ask allow log | sort)", "") for name in ("docker", "runc", "crun", "bwrap", "systemd")],
+    *[good(f"ask allow --for {name} log | grep -c ' execve allow$'", "1\n") for name in ("docker", "runc", "crun", "bwrap", "systemd")],
+    # What a line does not show narrows nothing, and where that is all there is no policy. Addresses may be any.
+    *[trouble(f"ask allow --args {words} log_of_kernel", "allow: no argument of this call is shown by each of its lines: --args read") for words in ("read", "getpid,read", "read,getpid")],
+    good("ask allow --args getpid log_of_kernel", "default errno/1 EPERM\n0 read allow\n39 getpid allow\n"),
+    Row("echo '7 openat(AT_FDCWD, \"a\", O_RDONLY) = 3' | ask allow --numbers --args openat -", 0, UNSHOWN_MODE,
+        "default errno/1 EPERM\n257 openat\n  allow where (args[0] & 0xffffffff) == 0xffffff9c && (args[2] & 0xffffffff) == 0\n  errno/1 EPERM else\n"),
+    trouble("(echo '7 read(3, \"\", 1) = 0'; echo '7 read() = 0') | ask allow --args read -", "allow: no argument of this call is shown by each of its lines: --args read"),
+    *[good(f"echo '7 {name}(0x7f0000001000, {', '.join(['4096', *more])}) = 0' | ask allow --numbers --args {name} - | grep -o 'args.[04].'; true", "")
+      for name, more in (("munmap", ()), ("mprotect", ("1",)), ("mremap", ("4096", "1", "0x7f0000002000")), ("madvise", ("4",)))],
     *[trouble(f"ask {word} --since-seccomp raw", f"{word}: no option is named --since-seccomp") for word in ("calls", "filter", "when", "lint", "show", "arches", "check")],
     good("ask allow log_of_kernel", "default errno/1 EPERM\n0 read allow\n39 getpid allow\n"),
     Row("ask replay log_of_i386 all", 1, "ask: log_of_i386: line 1 is not understood\n", "1 getpid() allow\n1 line is not understood\n"),

@@ -1,5 +1,5 @@
 -- What `ask allow` tells.
-use Rattle.std.specs.Prelude.{ℕ, ◌≡◌, ◌⊎◌, ◌==◌, ◌++◌, not, Bool, if◌then◌else◌, List, [], ◌∷◌, length, map, find, codes, Option, Some, None, Result, Ok, Err, ⊤}
+use Rattle.std.specs.Prelude.{ℕ, ◌≡◌, ◌⊎◌, ◌==◌, ◌++◌, not, Bool, if◌then◌else◌, List, [], ◌∷◌, length, map, flat_map, find, codes, Option, Some, None, Result, Ok, Err, ⊤}
 use Rattle.std.specs.Bool.{MatchBool}
 use Rattle.std.specs.Fmt.{decimal}
 use Rattle.std.specs.List.{list_any}
@@ -13,7 +13,7 @@ use Rattle.sk_replay.specs.declared.logged.LineCounts.{LineCounts}
 use Rattle.sk_replay.specs.Logged.{calls_in, is_among, numbers_in, numbers_with}
 use Rattle.sk_replay.specs.Replaying.{unclear_in}
 use Rattle.sk_policy_when.specs.Allowing.{allow_text, is_x86_64, logged_calls}
-use Rattle.sk_policy_when.specs.Narrowing.{AreAllowedRows, allowed_rows}
+use Rattle.sk_policy_when.specs.Narrowing.{AreAllowedRows, allowed_rows, is_wide, unshown_arguments}
 use Rattle.sk_when.specs.declared.row.ConditionalRow.{ConditionalRow}
 use Rattle.sk_profile_json.specs.Writing.{first_unnamed, profile_text}
 use Rattle.sk_ask.specs.declared.runtime.Runtime.{Runtime}
@@ -68,10 +68,16 @@ abbrev pub profiled : List ℕ → Option ℕ → Result (List ℕ) (List ℕ)
 profiled numbers (Some nr) = Err (unnamed_line nr)
 profiled numbers None = Ok (profile_text numbers)
 
--- what is said where the arguments of a call are wanted, and its runtime makes it too
+-- what is said of a narrowed call, with its name
+abbrev pub call_name : ℕ → List ℕ
+call_name nr = name_text architecture.X86_64 nr nr
+
+abbrev pub line_on : List ℕ → ℕ → List ℕ
+line_on what nr = of_word what (call_name nr)
+
+-- where its runtime makes it too
 abbrev pub own_line : ℕ → List ℕ
-own_line nr =
-    of_word (codes "allow: the runtime makes this call itself, with arguments that no log shows: --args ") (name_text architecture.X86_64 nr nr)
+own_line nr = line_on (codes "allow: the runtime makes this call itself, with arguments that no log shows: --args ") nr
 
 -- the first of some calls that a runtime makes itself
 abbrev pub own_call : Architecture → Option Runtime → List ℕ → Option ℕ
@@ -82,16 +88,27 @@ abbrev pub IsPolicyText : Naming → Architecture → List ℕ → List ℕ → 
 IsPolicyText naming by numbers narrowed calls said =
     (rows : List ConditionalRow) × AreAllowedRows (allowed_rows numbers narrowed calls) rows × (said ≡ Ok (allow_text naming by rows))
 
-abbrev pub IsNarrowedOr : Naming → List ℕ → List ℕ → List (List ℕ) → Option ℕ → Result (List ℕ) (List ℕ) → Type 0
-IsNarrowedOr naming numbers narrowed logs (Some nr) said = said ≡ Err (own_line nr)
-IsNarrowedOr naming numbers narrowed logs None said =
-    IsPolicyText naming architecture.X86_64 numbers narrowed (logged_calls architecture.X86_64 logs) said
+-- where none of its arguments can narrow it, since logs do not show them
+abbrev pub wide_line : ℕ → List ℕ
+wide_line nr = line_on (codes "allow: no argument of this call is shown by each of its lines: --args ") nr
 
--- the policy that allows calls with these numbers, and some of them with the arguments of logs alone
-abbrev pub IsPolicy : Naming → Architecture → Option Runtime → List ℕ → List ℕ → List (List ℕ) → Result (List ℕ) (List ℕ) → Type 0
-IsPolicy naming by runtime numbers narrowed logs said =
+-- the first of some calls of which that is so
+abbrev pub wide_call : List Call → List ℕ → Option ℕ
+wide_call calls narrowed = find (is_wide calls) narrowed
+
+abbrev pub IsShownOr : Naming → List ℕ → List ℕ → List Call → Option ℕ → Result (List ℕ) (List ℕ) → Type 0
+IsShownOr naming numbers narrowed calls (Some nr) said = said ≡ Err (wide_line nr)
+IsShownOr naming numbers narrowed calls None said = IsPolicyText naming architecture.X86_64 numbers narrowed calls said
+
+abbrev pub IsNarrowedOr : Naming → List ℕ → List ℕ → List Call → Option ℕ → Result (List ℕ) (List ℕ) → Type 0
+IsNarrowedOr naming numbers narrowed calls (Some nr) said = said ≡ Err (own_line nr)
+IsNarrowedOr naming numbers narrowed calls None said = IsShownOr naming numbers narrowed calls (wide_call calls narrowed) said
+
+-- the policy that allows calls with these numbers, and some of them with the arguments of these calls alone
+abbrev pub IsPolicy : Naming → Architecture → Option Runtime → List ℕ → List ℕ → List Call → Result (List ℕ) (List ℕ) → Type 0
+IsPolicy naming by runtime numbers narrowed calls said =
     MatchBool (length narrowed == 0) (IsPolicyText naming by numbers [] [] said)
-    (MatchBool (is_x86_64 by) (IsNarrowedOr naming numbers narrowed logs (own_call by runtime narrowed) said)
+    (MatchBool (is_x86_64 by) (IsNarrowedOr naming numbers narrowed calls (own_call by runtime narrowed) said)
     (said ≡ Err (of_word (codes "allow: arguments are those of calls of x86-64 alone: ") (codes "--args"))))
 
 -- the profile has no conditions, and is written of calls of x86-64 alone
@@ -101,14 +118,18 @@ profile_of by numbers narrowed =
     else if is_x86_64 by then profiled numbers (first_unnamed numbers)
     else Err (of_word (codes "allow: a profile is written of calls of x86-64 alone: ") (codes "--to profile"))
 
-abbrev pub IsGrantedAs : Grant → Naming → Architecture → Option Runtime → List ℕ → List ℕ → List (List ℕ) → Result (List ℕ) (List ℕ) → Type 0
-IsGrantedAs Policy naming by runtime numbers narrowed logs said = IsPolicy naming by runtime numbers narrowed logs said
-IsGrantedAs Profile naming by runtime numbers narrowed logs said = said ≡ profile_of by numbers narrowed
+abbrev pub IsGrantedAs : Grant → Naming → Architecture → Option Runtime → List ℕ → List ℕ → List Call → Result (List ℕ) (List ℕ) → Type 0
+IsGrantedAs Policy naming by runtime numbers narrowed calls said = IsPolicy naming by runtime numbers narrowed calls said
+IsGrantedAs Profile naming by runtime numbers narrowed calls said = said ≡ profile_of by numbers narrowed
+
+-- the calls whose arguments narrow some; none are wanted where nothing is narrowed
+abbrev pub calls_wanted : List ℕ → List (List ℕ) → List Call
+calls_wanted narrowed logs = if length narrowed == 0 then [] else logged_calls architecture.X86_64 logs
 
 -- what allows the calls of logs, and those of the runtime
 abbrev pub IsGranted : Naming → Architecture → Allowing → List ℕ → List (List ℕ) → Result (List ℕ) (List ℕ) → Type 0
 IsGranted naming by asks narrowed logs said =
-    IsGrantedAs asks.grant naming by asks.runtime (with_runtime by asks.runtime (numbers_in by logs)) narrowed logs said
+    IsGrantedAs asks.grant naming by asks.runtime (with_runtime by asks.runtime (numbers_in by logs)) narrowed (calls_wanted narrowed logs) said
 
 -- the line of that is told
 abbrev pub IsRefusal : Result (List ℕ) (List ℕ) → Trouble → Type 0
@@ -120,6 +141,24 @@ abbrev pub IsRefusalOf : (Result (List ℕ) (List ℕ) → Type 0) → Trouble �
 IsRefusalOf P (Refused line) = P (Err line.items)
 IsRefusalOf P (Reading line) = ⊥
 IsRefusalOf P Memory = ⊤
+
+-- ---- what is told beside it
+
+-- an argument of a narrowed call that some line does not show
+unfoldable pub unshown_line : ℕ → ℕ → List ℕ
+unshown_line nr i =
+    of_word (codes "allow: not each line shows this argument, so it may be any: ")
+    (codes "args[" ++ (decimal i ++ (codes "] of " ++ call_name nr)))
+
+abbrev pub unshown_note : List Call → ℕ → List ℕ
+unshown_note calls nr = flat_map (unshown_line nr) (unshown_arguments calls nr)
+
+-- those of all narrowed calls
+abbrev pub unshown_notes : List Call → List ℕ → List ℕ
+unshown_notes calls narrowed = flat_map (unshown_note calls) narrowed
+
+abbrev pub allow_notes : Architecture → List ℕ → List (List ℕ) → List (List ℕ) → List ℕ
+allow_notes by narrowed names logs = unclear_notes names (map (counts_of by) logs) ++ unshown_notes (calls_wanted narrowed logs) narrowed
 
 -- ---- the answer
 
@@ -133,7 +172,7 @@ abbrev pub IsAllowedOr : Naming → Architecture → Allowing → List ℕ → L
 IsAllowedOr naming by asks narrowed names logs (Some name) ending = ending ≡ refused (about name no_call_text)
 IsAllowedOr naming by asks narrowed names logs None ending =
     (said : Result (List ℕ) (List ℕ)) × IsGranted naming by asks narrowed logs said
-    × (ending ≡ answered_or (unclear_notes names (map (counts_of by) logs)) (some_unclear (map (counts_of by) logs)) said)
+    × (ending ≡ answered_or (allow_notes by narrowed names logs) (some_unclear (map (counts_of by) logs)) said)
 
 -- the answer to logs with these names
 abbrev pub IsAllowed : Naming → Architecture → Allowing → List ℕ → List (List ℕ) → List (List ℕ) → Ending → Type 0

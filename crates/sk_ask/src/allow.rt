@@ -10,7 +10,7 @@ ghost use Rattle.sk_ask.specs.Endings.{MayEnd, ending_of};
 
 use crate::analysis::Analysis;
 use crate::answer::Answer;
-use crate::narrowing::{is_x86_64, policy_of};
+use crate::narrowing::{calls_wanted, is_x86_64, policy_of, push_unshown};
 use crate::on::On;
 use crate::replay::NO_CALL;
 use crate::runtime::Runtime;
@@ -22,7 +22,7 @@ use crate::{MOST_LOG_BYTES, Shelf, Trouble, about, of_word};
 use sk_arguments::Naming;
 use sk_names::Architecture;
 use sk_profile_json::profile_text;
-use sk_replay::{LineCounts, add_logged};
+use sk_replay::{Call, LineCounts, add_logged};
 use std::alloc::{AllocError, Global};
 use std::collections::BTreeSet;
 
@@ -76,9 +76,20 @@ fn allowed(
     }
     add_runtime(&mut numbers, architecture, asks.runtime)?;
     let numbers = listed(alloc, &numbers)?;
+    let calls = calls_wanted(alloc, narrowed, logs)?;
+    let mut notes = unclear_notes(alloc, names, &counts)?;
+    push_unshown(alloc, &mut notes, &calls, narrowed)?;
     Ok(Answer {
-        text: granted(alloc, naming, architecture, asks, &numbers, narrowed, logs)?,
-        notes: unclear_notes(alloc, names, &counts)?,
+        text: granted(
+            alloc,
+            naming,
+            architecture,
+            asks,
+            &numbers,
+            narrowed,
+            &calls,
+        )?,
+        notes,
         denies: some_unclear(&counts),
     })
 }
@@ -97,7 +108,7 @@ pub(crate) fn add_runtime(
     Ok(())
 }
 
-// The text that allows calls with these numbers, and some of them with the arguments of logs alone.
+// The text that allows calls with these numbers, and some of them with the arguments of these calls alone.
 fn granted(
     alloc: Global,
     naming: Naming,
@@ -105,12 +116,12 @@ fn granted(
     asks: Allowing,
     numbers: &[u32],
     narrowed: &[u32],
-    logs: &[Vec<u8>],
+    calls: &[Call],
 ) -> Result<Vec<u8>, Trouble>
     ensures text { IfOk result (λ text.
-        IsGrantedAs asks.grant naming architecture asks.runtime numbers.now narrowed.now (map (λ log. log.items) logs.now) (Ok text.items)) }
+        IsGrantedAs asks.grant naming architecture asks.runtime numbers.now narrowed.now calls.now (Ok text.items)) }
     ensures refused { IfErr result (IsRefusalOf
-        (IsGrantedAs asks.grant naming architecture asks.runtime numbers.now narrowed.now (map (λ log. log.items) logs.now))) }
+        (IsGrantedAs asks.grant naming architecture asks.runtime numbers.now narrowed.now calls.now)) }
     ensures unread { (reads : ℕ) → CountsReads result reads reads }
 {
     match asks.grant {
@@ -121,7 +132,7 @@ fn granted(
             asks.runtime,
             numbers,
             narrowed,
-            logs,
+            calls,
         ),
         Grant::Profile => profile_of(alloc, architecture, numbers, narrowed),
     }

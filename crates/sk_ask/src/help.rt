@@ -166,15 +166,16 @@ The least policy that allows the calls in the LOGs, which strace -f -o LOG COMMA
 each number of a call, in rising order, and EPERM for all other calls. ask filter makes the filter of it.
   --args CALL,..
                 these calls with no other arguments than the LOGs show: of each argument that is no address the numbers that came in
-                it, as far as Linux reads it; an argument that some line does not show may be any. Of calls of x86-64 alone
+                it, as far as Linux reads it. One that some line does not show may be any, which a note tells; a call is refused
+                here whose arguments may all be any so. Of calls of x86-64 alone
   --numbers     numbers as they are, and no constants of Linux's headers
   --since-seccomp
                 only calls of processes that have a filter, as in ask replay
-  --for RUNTIME allow the calls too that a container's runtime makes itself under its filter: docker (runc), crun or bwrap
+  --for RUNTIME allow the calls too that a runtime makes itself under its filter: docker (runc), crun, bwrap or systemd
   --to FORM     profile: a profile of docker's kind, of calls of x86-64 alone; else it is a policy
   --arch ARCH   the programs were of this architecture: ask --help has their names; a policy for x32 is one of x86-64
 Status 1 where a line is not understood, which standard error tells. A LOG has at most 268435456 bytes; - is standard input.
-Calls that the programs did not make in these runs are refused, and without --for those that a container's runtime makes before them.
+Calls that the programs did not make in these runs are refused, and without --for those that a runtime makes before them.
 ";
 
 /// What `ask why --help` says.

@@ -1,8 +1,8 @@
 //! `ask allow --args`: the policy that allows some calls with the arguments of logs alone.
-ghost use Rattle.std.specs.Prelude.{◌≡◌, ℕ, IfOk, IfErr, Ok, find, map};
+ghost use Rattle.std.specs.Prelude.{◌≡◌, ◌++◌, ℕ, IfOk, IfErr, OnOk, Ok, find, flat_map, map};
 ghost use Rattle.sk_policy_when.specs.Allowing.{is_x86_64, logged_calls};
 ghost use Rattle.sk_replay.specs.Logged.{is_among};
-ghost use Rattle.sk_ask.specs.Allows.{IsPolicy, IsPolicyText, IsRefusalOf, own_call, own_line};
+ghost use Rattle.sk_ask.specs.Allows.{IsPolicy, IsPolicyText, IsRefusalOf, call_name, calls_wanted, line_on, own_call, unshown_line, unshown_notes, wide_call};
 ghost use Rattle.sk_ask.specs.Counts.{CountsReads};
 
 use crate::allow::{add_runtime, listed};
@@ -10,7 +10,7 @@ use crate::runtime::Runtime;
 use crate::{Trouble, of_word};
 use sk_arguments::Naming;
 use sk_names::Architecture;
-use sk_policy_when::{allow_text, allowed_rows};
+use sk_policy_when::{allow_text, allowed_rows, is_wide, unshown_arguments};
 use sk_replay::{Call, calls_of};
 use sk_show::name_of_numbers;
 use std::alloc::{AllocError, Global};
@@ -23,7 +23,13 @@ const ONLY_X86_64: &str = "allow: arguments are those of calls of x86-64 alone: 
 const OWN_CALL: &str =
     "allow: the runtime makes this call itself, with arguments that no log shows: --args ";
 
-/// The policy that allows calls with these numbers, and the narrowed ones of them with the arguments of logs alone.
+/// What is said where no line shows what could narrow a call.
+const WIDE: &str = "allow: no argument of this call is shown by each of its lines: --args ";
+
+/// What is said of an argument that does not narrow its call.
+const UNSHOWN: &str = "allow: not each line shows this argument, so it may be any: ";
+
+/// The policy that allows calls with these numbers, and the narrowed ones of them with the arguments of these calls alone.
 pub(crate) fn policy_of(
     alloc: Global,
     naming: Naming,
@@ -31,11 +37,11 @@ pub(crate) fn policy_of(
     runtime: Option<Runtime>,
     numbers: &[u32],
     narrowed: &[u32],
-    logs: &[Vec<u8>],
+    calls: &[Call],
 ) -> Result<Vec<u8>, Trouble>
     ensures text { IfOk result (λ text.
-        IsPolicy naming architecture runtime numbers.now narrowed.now (map (λ log. log.items) logs.now) (Ok text.items)) }
-    ensures refused { IfErr result (IsRefusalOf (IsPolicy naming architecture runtime numbers.now narrowed.now (map (λ log. log.items) logs.now))) }
+        IsPolicy naming architecture runtime numbers.now narrowed.now calls.now (Ok text.items)) }
+    ensures refused { IfErr result (IsRefusalOf (IsPolicy naming architecture runtime numbers.now narrowed.now calls.now)) }
     ensures unread { (reads : ℕ) → CountsReads result reads reads }
 {
     if narrowed.is_empty() {
@@ -45,16 +51,18 @@ pub(crate) fn policy_of(
         return Err(Trouble::Refused(of_word(alloc, ONLY_X86_64, b"--args")?));
     }
     if let Some(nr) = own_call(alloc, architecture, runtime, narrowed)? {
-        return Err(Trouble::Refused(own_line(alloc, nr)?));
+        return Err(Trouble::Refused(line_on(alloc, OWN_CALL, nr)?));
     }
-    let calls = logged_calls(alloc, Architecture::X86_64, logs)?;
+    if let Some(nr) = wide_call(alloc, calls, narrowed)? {
+        return Err(Trouble::Refused(line_on(alloc, WIDE, nr)?));
+    }
     Ok(policy_text(
         alloc,
         naming,
         Architecture::X86_64,
         numbers,
         narrowed,
-        &calls,
+        calls,
     )?)
 }
 
@@ -106,11 +114,84 @@ fn is_among(nr: u32, numbers: &[u32]) -> bool
     numbers.iter().any(|other| *other == nr)
 }
 
-fn own_line(alloc: Global, nr: u32) -> Result<Vec<u8>, AllocError>
-    ensures line { IfOk result (λ line. line.items ≡ own_line nr) }
+// The first of some calls that nothing narrows, since lines do not show what could.
+fn wide_call(alloc: Global, calls: &[Call], narrowed: &[u32]) -> Result<Option<u32>, AllocError>
+    ensures call { IfOk result (λ call. call ≡ wide_call calls.now narrowed.now) }
 {
-    let name = name_of_numbers(Architecture::X86_64, nr, nr);
-    of_word(alloc, OWN_CALL, name.as_bytes())
+    let mut left = narrowed;
+    while let Some((nr, others)) = left.split_first() {
+        if is_wide(alloc, calls, *nr)? {
+            return Ok(Some(*nr));
+        }
+        left = others;
+    }
+    Ok(None)
+}
+
+// What is said of a narrowed call.
+fn line_on(alloc: Global, what: &str, nr: u32) -> Result<Vec<u8>, AllocError>
+    ensures line { IfOk result (λ line. line.items ≡ line_on what.now nr) }
+{
+    of_word(alloc, what, call_name(nr).as_bytes())
+}
+
+fn call_name(nr: u32) -> &'static str
+    ensures name { result.now ≡ call_name nr }
+{
+    name_of_numbers(Architecture::X86_64, nr, nr)
+}
+
+/// Adds which arguments of narrowed calls may be any, since not each line shows them.
+pub(crate) fn push_unshown(
+    alloc: Global,
+    notes: &mut Vec<u8>,
+    calls: &[Call],
+    narrowed: &[u32],
+) -> Result<(), AllocError>
+    ensures notes { OnOk result (notes.new.items ≡ notes.old.items ++ unshown_notes calls.now narrowed.now) }
+{
+    for nr in narrowed {
+        let unshown = unshown_arguments(alloc, calls, *nr)?;
+        push_lines(alloc, notes, *nr, &unshown)?;
+    }
+    Ok(())
+}
+
+fn push_lines(
+    alloc: Global,
+    notes: &mut Vec<u8>,
+    nr: u32,
+    arguments: &[usize],
+) -> Result<(), AllocError>
+    ensures lines { OnOk result (notes.new.items ≡ notes.old.items ++ flat_map (unshown_line nr) arguments.now) }
+{
+    for argument in arguments {
+        notes.extend_from_slice(&unshown_line(alloc, nr, *argument)?)?;
+    }
+    Ok(())
+}
+
+#[tactic(auto, unfolding(crate::specs::Allows::unshown_line))]
+fn unshown_line(alloc: Global, nr: u32, argument: usize) -> Result<Vec<u8>, AllocError>
+    ensures line { IfOk result (λ line. line.items ≡ unshown_line nr argument) }
+{
+    let name = call_name(nr);
+    let shown = format!(in alloc; "args[{argument}] of {name}")?;
+    of_word(alloc, UNSHOWN, shown.as_bytes())
+}
+
+/// The calls of logs whose arguments narrow some: none are wanted where nothing is narrowed.
+pub(crate) fn calls_wanted(
+    alloc: Global,
+    narrowed: &[u32],
+    logs: &[Vec<u8>],
+) -> Result<Vec<Call>, AllocError>
+    ensures calls { IfOk result (λ calls. calls.items ≡ calls_wanted narrowed.now (map (λ log. log.items) logs.now)) }
+{
+    if narrowed.is_empty() {
+        return Ok(Vec::new(alloc));
+    }
+    logged_calls(alloc, Architecture::X86_64, logs)
 }
 
 // The calls of logs, those of each log once.

@@ -56,6 +56,25 @@ const POLICIES: &[(&str, &[u8], &[u8], u8)] = &[
     (
         "allow --args openat,socket opened",
         b"default errno/1 EPERM\n39 getpid allow\n41 socket\n  allow where (args[0] & 0xffffffff) == AF_UNIX && (args[1] & 0xffffffff) == SOCK_STREAM\n      && (args[2] & 0xffffffff) == 0\n  errno/1 EPERM else\n257 openat\n  allow where (args[0] & 0xffffffff) == 0xffffff9c\n      && ((args[2] & 0xffffffff) == (O_WRONLY|O_CREAT) || (args[2] & 0xffffffff) == O_CLOEXEC)\n  errno/1 EPERM else\n",
+        b"ask: allow: not each line shows this argument, so it may be any: args[3] of openat\n",
+        0,
+    ),
+    // The address may be any.
+    (
+        "allow --args munmap unmapped",
+        b"default errno/1 EPERM\n11 munmap\n  allow where args[1] == 0x1000\n  errno/1 EPERM else\n",
+        b"",
+        0,
+    ),
+    (
+        "allow --args openat logged",
+        b"",
+        b"ask: allow: no argument of this call is shown by each of its lines: --args openat\n",
+        2,
+    ),
+    (
+        "allow --for systemd unmapped",
+        b"default errno/1 EPERM\n1 write allow\n11 munmap allow\n59 execve allow\n317 seccomp allow\n",
         b"",
         0,
     ),

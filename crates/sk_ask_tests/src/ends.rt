@@ -63,6 +63,11 @@ const FILES: &[(&str, &[u8])] = &[
         "opened",
         b"7 openat(AT_FDCWD, \"a\", O_RDONLY|O_CLOEXEC) = 3\n7 openat(AT_FDCWD, \"b\", O_WRONLY|O_CREAT, 0644) = 3\n7 socket(AF_UNIX, SOCK_STREAM, 0) = 4\n7 getpid() = 7\n",
     ),
+    ("unmapped", b"7 munmap(0x7f0000001000, 4096) = 0\n"),
+    (
+        "logged",
+        b"type=1326 audit(1.2:3): pid=7 comm=\"a\" sig=0 arch=c000003e syscall=257 compat=0 ip=0x7f code=0x7ffc0000\n",
+    ),
     ("empty", b""),
     ("wanted", b"read: performed\n"),
     (
