@@ -6,7 +6,8 @@ installed. Of each log the policy becomes a filter, by `ask filter`. By `ask rep
 `ask calls` it allows just the numbers of the log, whose names are read here a second time, and refuses each other one. Where
 this Linux lets a process attach a filter, the command runs again under it, and ends as before. So it does under bubblewrap,
 where that is installed and runs. So it does with `--args`, where the calls of NARROWED have only the numbers of the log: each that came
-is allowed, whatever bits stand above those that Linux reads, and another one is not. Where runc runs, a container is traced and runs again under its own profile: that of the calls
+is allowed, whatever bits stand above those that Linux reads, and another one is not. Of a log with strace's texts all calls are
+narrowed but those of VARYING. Where runc runs, a container is traced and runs again under its own profile: that of the calls
 from under the first filter, and that of the program's calls and the runtime's.
 
 Prints what was left out, each problem, and at last 'N passed, M failed'."""
@@ -64,6 +65,8 @@ NARROWED = {
 }
 # Of these the first argument is an address, which is another one in each run.
 ADDRESSES = {"mmap", "mprotect", "munmap"}
+# Numbers of times and of processes, and what is read from others, are others in each run.
+VARYING = {"poll", "ppoll", "epoll_wait", "nanosleep", "clock_nanosleep", "futex", "wait4", "kill", "tgkill", "setpgid", "read", "write"}
 SHOWN = re.compile(r"^(?:\d+ +)?(\w+)\((.*?)(?:\)? += .*| <unfinished \.\.\.>)$", re.M)
 SECONDS = 60
 X32 = 1 << 30
@@ -193,6 +196,18 @@ def check_narrowed(what, log):
     return policy
 
 
+def narrowed_wholly(what, log):
+    """The policy that narrows the calls of a log, but for those of VARYING and those whose arguments, it says, no line shows."""
+    names = calls_in(log)[0] - VARYING
+    while names:
+        made = ask("allow", "--args", ",".join(sorted(names)), log)
+        if made.returncode != 2:
+            judge(made.returncode == 0 and ask("replay", log, "-", given=made.stdout).returncode in (0, 1), f"{what}: all its calls are narrowed")
+            return made.stdout
+        names.remove(made.stderr.decode().split()[-1])
+    return b""
+
+
 def check_log(what, log):
     made = ask("allow", log)
     judge(made.returncode == 0 and not made.stderr, f"{what}: ask allow answers")
@@ -211,7 +226,7 @@ def check_command(folder, number, options, command, attaches, wraps):
         return
     check_log(what, log)
     # The filter stands before the command's execve, which is in the log; what attaches it goes on in between.
-    narrowed = check_narrowed(what, log) if options == RAW else b""
+    narrowed = (check_narrowed if options == RAW else narrowed_wholly)(what, log)
     for policy in filter(None, (ask("allow", log).stdout, narrowed)):
         if attaches:
             check_again(what, command, policy, before)
